@@ -1,0 +1,2 @@
+pub mod ColumnFit
+pub mod Order

@@ -1,0 +1,34 @@
+//! The plain types of the server: texts, bytes and lists that contracts see as lists, and what is built of them.
+#![tactic(auto)]
+
+mod bin;
+mod column_fit;
+mod command;
+mod copies;
+mod entry;
+mod list;
+mod memory;
+mod order;
+mod refusal;
+mod reply;
+mod schema;
+mod text;
+mod tracked;
+mod value;
+mod verdict;
+
+pub use bin::Bin;
+pub use column_fit::{Misfit, fits, is_of_kind};
+pub use command::{Command, Journaled};
+pub use copies::Copies;
+pub use entry::{Act, Change, Entry, Keep, Kept, Min, Op, Write};
+pub use list::List;
+pub use memory::Memory;
+pub use order::{cmp_key, cmp_value};
+pub use refusal::Refusal;
+pub use reply::{Grid, Reply};
+pub use schema::{ColType, Column, Schema};
+pub use text::Text;
+pub use tracked::{NetRow, Tracked, VersionRow};
+pub use value::{Key, Row, Value};
+pub use verdict::{CopyOut, Touched, Verdict};
