@@ -1,0 +1,10 @@
+pub mod Agrees
+pub mod Applies
+pub mod Apply
+pub mod Lists
+pub mod Names
+pub mod Net
+pub mod Schemas
+pub mod Tables
+pub mod Valid
+pub mod Versions

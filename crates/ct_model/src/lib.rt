@@ -1,0 +1,6 @@
+//! The database as plain lists: what an entry makes of it, when one applies, and its net changes.
+#![tactic(auto)]
+
+mod db;
+
+pub use db::{Dated, Db, Table};
