@@ -1,0 +1,45 @@
+-- When a journal is a play of the machine, and in which order its statements stand.
+use Rattle.std.specs.Prelude.{◌≡◌, ℕ, ◌+◌, Bool, true, false, List, [], ◌∷◌, ◌⊎◌, if◌then◌else◌}
+use Rattle.std.specs.List.{list_any}
+use Rattle.ct_types.specs.declared.refusal.Refusal.{Refusal}
+use Rattle.ct_types.specs.declared.refusal.Refusal.TheVariants.{Memory}
+use Rattle.ct_types.specs.declared.reply.Reply.{Reply}
+use Rattle.ct_types.specs.declared.reply.Reply.TheVariants.{Refused}
+use Rattle.ct_types.specs.declared.command.Command.{Command}
+use Rattle.ct_types.specs.declared.command.Journaled.{Journaled}
+use Rattle.ct_machine.specs.Machine.{Machine}
+use Rattle.ct_machine.specs.Step.{step}
+
+-- whether a reply says that memory was wanting
+abbrev pub is_memory : Reply → Bool
+is_memory (Refused Memory) = true
+is_memory other = false
+
+-- the replies that a machine may give: its own, or want of memory
+abbrev pub Follows : Machine → Command → Reply → Type 0
+Follows m what reply = (is_memory reply ≡ true) ⊎ (reply ≡ (step m what).1)
+
+-- the machine after a reply; want of memory leaves it as it was
+abbrev pub after : Machine → Command → Reply → Machine
+after m what reply = if is_memory reply then m else (step m what).0
+
+-- each reply of the journal follows from the machine before it
+abbrev pub IsPlay : Machine → List Journaled → Type 0
+IsPlay m [] = Unit {0}
+IsPlay m (one ∷ more) = Follows m one.what one.reply × IsPlay (after m one.what one.reply) more
+
+-- the machine after the journal
+abbrev pub end_of : Machine → List Journaled → Machine
+end_of m [] = m
+end_of m (one ∷ more) = end_of (after m one.what one.reply) more
+
+-- the journal has these statements of a session in their order, numbered from this number on, and no other
+abbrev pub IsInOrder : ℕ → ℕ → List Command → List Journaled → Type 0
+IsInOrder session number [] [] = Unit {0}
+IsInOrder session number (what ∷ others) (one ∷ more) = (one.session ≡ session) × (one.number ≡ number) × (one.what ≡ what) × IsInOrder session (number + 1) others more
+IsInOrder session number [] (one ∷ more) = ⊥
+IsInOrder session number (what ∷ others) [] = ⊥
+
+-- no reply says that memory was wanting
+abbrev pub IsWhole : List Journaled → Type 0
+IsWhole journal = list_any (λ one. is_memory one.reply) journal ≡ false

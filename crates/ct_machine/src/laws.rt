@@ -1,0 +1,12 @@
+ghost use Rattle.ct_machine.specs.Laws.{PlaysGoOn, OneWholePlay};
+
+/// A play goes on by one statement whose reply follows.
+pub fn plays_go_on()
+    ensures { PlaysGoOn }
+{}
+
+/// The replies are those that the committed entries give: two plays of the same statements from one machine, in which
+/// memory was never wanting, are one.
+pub fn one_whole_play()
+    ensures { OneWholePlay }
+{}
