@@ -1,0 +1,124 @@
+-- What a call of `run_top` is, by its status.
+use Rattle.std.specs.Prelude.{◌≡◌, ◌≤◌, ◌<◌, ◌⊎◌, ℕ, codes, List, [], ◌∷◌, length, map, Option, String, string_bytes}
+use Rattle.std.specs.declared.alloc.Global.{Global}
+use Rattle.std.specs.Io.KnownBytes.{Appends, Consumes, IsAtEnd, Keeps}
+use Rattle.ct_types.specs.declared.command.Command.{Command}
+use Rattle.ct_types.specs.declared.command.Journaled.{Journaled}
+use Rattle.ct_faults.specs.Bytes.{most_bytes, AppendsFront, TakesAtMost}
+use Rattle.ct_faults.specs.Causes.{Rose}
+use Rattle.ct_model.specs.Apply.{no_db}
+use Rattle.ct_machine.specs.Machine.{opening}
+use Rattle.ct_machine.specs.Play.{IsPlay, IsInOrder, IsWhole}
+use Rattle.ct_machine.specs.Transcript.{transcript}
+use Rattle.ct_run.specs.Script.{IsScript, IsNoScript}
+use Rattle.ct_run.specs.declared.status.Status.{Status}
+use Rattle.ct_run.specs.declared.status.Status.TheVariants.{Done, Usage, BadScript, ReadFault, WriteFault, DiskFault, Foreign, Memory, TooLarge}
+
+-- the number of a status
+abbrev pub code_of : Status → ℕ
+code_of Done = 0
+code_of Usage = 1
+code_of BadScript = 2
+code_of ReadFault = 3
+code_of WriteFault = 4
+code_of DiskFault = 5
+code_of Foreign = 6
+code_of Memory = 7
+code_of TooLarge = 8
+
+-- the words are `run` alone
+abbrev pub IsRun : List (String Global) → Type 0
+IsRun words = map string_bytes words ≡ codes "run" ∷ []
+
+-- what a source had left, where it tells it, and how often it had failed, before a call and after it
+pub record SourceChange : Type 0 where
+  pub before : Option (List ℕ)
+  pub now : Option (List ℕ)
+  pub faults_before : ℕ
+  pub faults_now : ℕ
+
+-- what a sink held, where it tells it, and how often it had failed, before a call and after it
+pub record SinkChange : Type 0 where
+  pub before : Option (List ℕ)
+  pub now : Option (List ℕ)
+  pub faults_before : ℕ
+  pub faults_now : ℕ
+
+-- how often a disk had failed, before a call and after it
+pub record DiskChange : Type 0 where
+  pub faults_before : ℕ
+  pub faults_now : ℕ
+
+-- the source failed in this call
+abbrev pub SourceFailed : SourceChange → Type 0
+SourceFailed source = Rose source.faults_before source.faults_now
+
+abbrev pub SinkFailed : SinkChange → Type 0
+SinkFailed sink = Rose sink.faults_before sink.faults_now
+
+-- the source was read to its end, and gave these bytes
+pub record ReadsWhole (source : SourceChange) (bytes : List ℕ) : Type 0 where
+  pub taken : Consumes source.before source.now bytes
+  pub ended : IsAtEnd source.now
+  pub few : length bytes ≤ most_bytes
+
+-- the sink got this text, or a front part of it where a write failed
+abbrev pub Says : SinkChange → List ℕ → Type 0
+Says sink text = Appends sink.before sink.now text ⊎ (AppendsFront sink.before sink.now text × SinkFailed sink)
+
+-- the journal is a play of the script by session 1, from the empty database
+pub record IsRunOf (script : List Command) (journal : List Journaled) : Type 0 where
+  pub in_order : IsInOrder 1 1 script journal
+  pub is_play : IsPlay (opening no_db) journal
+
+-- what the sink got of the transcript: at the end all of it, where no memory was wanting; a front part where a write
+-- failed; a front part, which may be all, where memory was wanting
+abbrev pub Writes : Status → SinkChange → List Journaled → Type 0
+Writes Done sink journal = IsWhole journal × Appends sink.before sink.now (transcript journal)
+Writes WriteFault sink journal = IsWhole journal × SinkFailed sink × AppendsFront sink.before sink.now (transcript journal)
+Writes Memory sink journal = AppendsFront sink.before sink.now (transcript journal)
+Writes other sink journal = ⊥
+
+-- the bytes are a script, and a play of it was written
+abbrev pub PlaysBytes : Status → SinkChange → List ℕ → Type 0
+PlaysBytes status sink bytes = (script : List Command) × IsScript bytes script × ((journal : List Journaled) × IsRunOf script journal × Writes status sink journal)
+
+-- what comes of the bytes that were read
+abbrev pub Answers : Status → SinkChange → List ℕ → Type 0
+Answers Done sink bytes = PlaysBytes Done sink bytes
+Answers WriteFault sink bytes = PlaysBytes WriteFault sink bytes
+Answers Memory sink bytes = Keeps sink.before sink.now ⊎ PlaysBytes Memory sink bytes
+Answers BadScript sink bytes = IsNoScript bytes × Says sink (codes "BadScript line 1 rule 10\n")
+Answers other sink bytes = ⊥
+
+-- the source was read to its end, and its bytes were answered
+abbrev pub AnswersAll : Status → SourceChange → SinkChange → Type 0
+AnswersAll status source sink = (bytes : List ℕ) × ReadsWhole source bytes × Answers status sink bytes
+
+-- more bytes were taken than a script may have
+abbrev pub TakesTooMany : SourceChange → Type 0
+TakesTooMany source = (taken : List ℕ) × Consumes source.before source.now taken × (most_bytes < length taken)
+
+-- what a run of the word `run` is, by its status; there is no disk yet, so it neither fails nor is foreign
+abbrev pub Runs : Status → SourceChange → SinkChange → DiskChange → Type 0
+Runs Done source sink disk = AnswersAll Done source sink
+Runs WriteFault source sink disk = AnswersAll WriteFault source sink
+Runs BadScript source sink disk = AnswersAll BadScript source sink
+Runs ReadFault source sink disk = SourceFailed source × TakesAtMost source.before source.now × Says sink (codes "ReadFault\n")
+Runs TooLarge source sink disk = TakesTooMany source × Says sink (codes "TooLarge\n")
+Runs Memory source sink disk = (TakesAtMost source.before source.now × Keeps sink.before sink.now) ⊎ AnswersAll Memory source sink
+Runs DiskFault source sink disk = ⊥
+Runs Foreign source sink disk = ⊥
+Runs Usage source sink disk = ⊥
+
+-- what a call is, by its status and its words
+abbrev pub Ends : Status → List (String Global) → SourceChange → SinkChange → DiskChange → Type 0
+Ends Usage words source sink disk = (¬ IsRun words) × Keeps source.before source.now × Says sink (codes "Usage\n")
+Ends Done words source sink disk = IsRun words × Runs Done source sink disk
+Ends BadScript words source sink disk = IsRun words × Runs BadScript source sink disk
+Ends ReadFault words source sink disk = IsRun words × Runs ReadFault source sink disk
+Ends WriteFault words source sink disk = IsRun words × Runs WriteFault source sink disk
+Ends DiskFault words source sink disk = IsRun words × Runs DiskFault source sink disk
+Ends Foreign words source sink disk = IsRun words × Runs Foreign source sink disk
+Ends Memory words source sink disk = IsRun words × Runs Memory source sink disk
+Ends TooLarge words source sink disk = IsRun words × Runs TooLarge source sink disk
