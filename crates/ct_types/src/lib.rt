@@ -6,12 +6,14 @@ mod column_fit;
 mod command;
 mod copies;
 mod entry;
+mod expr;
 mod list;
 mod memory;
 mod order;
 mod refusal;
 mod reply;
 mod schema;
+mod stmt;
 mod text;
 mod tracked;
 mod value;
@@ -22,12 +24,18 @@ pub use column_fit::{Misfit, fits, is_of_kind};
 pub use command::{Command, Journaled};
 pub use copies::Copies;
 pub use entry::{Act, Change, Entry, Keep, Kept, Min, Op, Write};
+pub use expr::{ColumnName, Comparison, Expr, ObjectName, RowVersion, Scalar, Term};
 pub use list::List;
 pub use memory::Memory;
 pub use order::{cmp_key, cmp_value};
 pub use refusal::Refusal;
 pub use reply::{Grid, Reply};
 pub use schema::{ColType, Column, Schema};
+pub use stmt::{
+    ColumnDef, ColumnRule, DatabaseOption, FromClause, Isolation, Join, JoinKind, OrderItem,
+    Retention, Select, SelectItem, SetColumn, Source, Stmt, TableSource, TimeUnit, TrackingOptions,
+    TypeName, VersionSource, WriteStmt,
+};
 pub use text::Text;
 pub use tracked::{NetRow, Tracked, VersionRow};
 pub use value::{Key, Row, Value};

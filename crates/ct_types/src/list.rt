@@ -46,6 +46,14 @@ impl<T> List<T> {
         self.items.as_slice()
     }
 
+    /// The vector of the items, with no copy.
+    pub fn into_vec(self) -> Vec<T>
+        ensures { result.items ≡ self }
+    {
+        let List { items } = self;
+        items
+    }
+
     /// Adds an item at the end. Want of memory hands the item back and leaves the list as it was.
     pub fn push(&mut self, item: T) -> Result<(), (T, Memory)>
         ensures ok { OnOk result (self.new ≡ self.old ++ item ∷ []) }
