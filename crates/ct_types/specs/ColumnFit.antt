@@ -1,5 +1,6 @@
 -- When a value fits a column: by its kind, by NULL, and by the width of the column's type.
 use Rattle.std.specs.Prelude.{◌≡◌, ℕ, ◌≤◌, ◌<◌, ℤ, pos, negsuc, ◌≤ℤ◌, Bool, true, false, nat_lt, nat_le, ◌||◌, List, length, count_by}
+use Rattle.std.specs.Str.{IsUtf8}
 use Rattle.ct_types.specs.declared.schema.ColType.{ColType}
 use Rattle.ct_types.specs.declared.schema.ColType.TheVariants as kind
 use Rattle.ct_types.specs.declared.schema.Column.{Column}
@@ -16,6 +17,10 @@ code_points text = count_by starts_code_point text
 -- a number of 32 bits
 abbrev pub IsInt : ℤ → Type 0
 IsInt n = (negsuc 2147483647 ≤ℤ n) × (n ≤ℤ pos 2147483647)
+
+-- a number of 64 bits
+abbrev pub IsBigInt : ℤ → Type 0
+IsBigInt n = (negsuc 9223372036854775807 ≤ℤ n) × (n ≤ℤ pos 9223372036854775807)
 
 -- NULL has each kind
 abbrev pub has_kind : ColType → Value → Bool
@@ -54,7 +59,8 @@ IsTooLong type value = ⊥
 -- none of these: NULL where it may stand, a number within the type, a text or bytes that are not too long
 abbrev pub IsWithin : ColType → Value → Type 0
 IsWithin kind.Int (Int n) = IsInt n
-IsWithin (kind.NVarChar most) (Text t) = code_points t ≤ most
+IsWithin kind.BigInt (Int n) = IsBigInt n
+IsWithin (kind.NVarChar most) (Text t) = IsUtf8 t × (code_points t ≤ most)
 IsWithin (kind.VarBinary most) (Bytes b) = length b ≤ most
 IsWithin type value = Unit {0}
 

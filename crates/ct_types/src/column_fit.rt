@@ -1,5 +1,6 @@
 ghost use Rattle.std.specs.Prelude.{◌≡◌, ◌↔◌, IsTrue, IsOk};
-ghost use Rattle.ct_types.specs.ColumnFit.{code_points, has_kind, IsInt, IsMissing, IsOutOfRange, IsTooLong, Fits};
+ghost use Rattle.std.specs.Str.{IsUtf8};
+ghost use Rattle.ct_types.specs.ColumnFit.{code_points, has_kind, IsInt, IsBigInt, IsMissing, IsOutOfRange, IsTooLong, Fits};
 
 use crate::{ColType, Column, Text, Value};
 
@@ -16,13 +17,22 @@ pub enum Misfit {
 
 /// How many code points a text has.
 fn count_code_points(text: &Text) -> usize
-    ensures { result ≡ code_points text.now }
+    ensures count { result ≡ code_points text.now }
+    ensures utf8 { IsUtf8 text.now }
 {
     text.as_str()
         .as_bytes()
         .iter()
         .filter(|byte| **byte < 128 || **byte >= 192)
         .count()
+}
+
+/// Each number of 64 bits is a BIGINT.
+fn is_big_int(number: i64) -> bool
+    ensures whole { IsTrue result }
+    ensures range { IsBigInt number }
+{
+    number >= i64::MIN
 }
 
 fn is_int(number: i64) -> bool
@@ -81,7 +91,11 @@ pub fn fits(column: &Column, value: &Value) -> Result<(), Misfit>
                     Err(Misfit::Overflow)
                 }
             }
-            ColType::BigInt | ColType::NVarChar(_) | ColType::VarBinary(_) => Ok(()),
+            ColType::BigInt => {
+                let _whole = is_big_int(*number);
+                Ok(())
+            }
+            ColType::NVarChar(_) | ColType::VarBinary(_) => Ok(()),
         },
         Value::Text(text) => match column.kind {
             ColType::NVarChar(most) => {
