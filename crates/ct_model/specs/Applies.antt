@@ -55,34 +55,44 @@ abbrev pub WritesApply : List Table → List Write → Type 0
 WritesApply tables [] = Unit {0}
 WritesApply tables (write ∷ writes) = IsSomeAnd (table_of tables write.table) (WriteFits write) × WritesApply (map (written write) tables) writes
 
--- a schema that may go last into the tables: its id is the next one, and its name is new
+-- a schema that may go last into the tables: its id is the next one, its name is new, and there are fewer than 256 tables
 pub record IsNewSchema (tables : List Table) (schema : Schema) : Type 0 where
   pub id : schema.id ≡ length tables + 1
   pub room : length tables < 256
   pub name : AllByRecursion (λ table. folded table.schema.name ≢ folded schema.name) tables
   pub definable : IsSchema schema
 
--- a listed minimum is above that of its table, which is tracked
+-- a minimum is above that of a table, which is tracked
 abbrev pub MinRises : ℕ → Option Tracked → Type 0
 MinRises min None = ⊥
 MinRises min (Some tracked) = tracked.min < min
 
+-- a listed minimum is above that of its table and at most the version
 abbrev pub IsRaise : List Table → ℕ → Min → Type 0
 IsRaise tables version listed = IsSomeAnd (table_of tables listed.table) (λ table. MinRises listed.min table.tracked) × (listed.min ≤ version)
 
--- an act applies, in an entry with this version that draws it or not
+-- an act applies, in an entry with this version that draws it or not:
+-- * a Commit has writes, which fit one after the other, and draws exactly where one of them is tracked;
+-- * a Define has a new schema, and does not draw;
+-- * a Truncate's table is there, and it draws exactly where that is tracked;
+-- * an Enable's table is there and not tracked, the database is on, and it draws;
+-- * a Disable's table is tracked, and it does not draw;
+-- * a Database sets a retention that is one, or goes off where it is on and no table is tracked; it does not draw;
+-- * a Raise lists tables, each once and by rising table, and does not draw.
 abbrev pub ActApplies : Db → ℕ → Bool → Act → Type 0
-ActApplies db version draws (Commit writes) = (0 < length writes) × WritesApply db.tables writes × (draws ≡ list_any (λ write. write.tracked) writes)
+ActApplies db version draws (Commit writes) =
+    (0 < length writes) × WritesApply db.tables writes × (draws ≡ list_any (λ write. write.tracked) writes)
 ActApplies db version draws (Define schema) = IsNewSchema db.tables schema × (draws ≡ false)
 ActApplies db version draws (Truncate id) = IsSomeAnd (table_of db.tables id) (λ table. draws ≡ is_some table.tracked)
-ActApplies db version draws (Enable id masks) = IsSome db.keep × IsSomeAnd (table_of db.tables id) (λ table. table.tracked ≡ None) × (draws ≡ true)
+ActApplies db version draws (Enable id masks) =
+    IsSome db.keep × IsSomeAnd (table_of db.tables id) (λ table. table.tracked ≡ None) × (draws ≡ true)
 ActApplies db version draws (Disable id) = IsSomeAnd (table_of db.tables id) (λ table. IsSome table.tracked) × (draws ≡ false)
 ActApplies db version draws (Database (Some keep)) = IsRetention keep.retention × (draws ≡ false)
 ActApplies db version draws (Database None) = IsSome db.keep × AllByRecursion (λ table. table.tracked ≡ None) db.tables × (draws ≡ false)
 ActApplies db version draws (Raise minima) =
     (0 < length minima) × EachToLater (λ a b. a.table < b.table) minima × AllByRecursion (IsRaise db.tables version) minima × (draws ≡ false)
 
--- a transaction number from 1 on that no kept commit has
+-- a transaction number from 1 to 2^62 that no kept commit has
 abbrev pub IsNewXdes : Db → ℕ → Type 0
 IsNewXdes db xdes = (1 ≤ xdes) × (xdes ≤ 2 ^ 62) × AllByRecursion (λ kept. kept.xdes ≢ xdes) db.kept
 
@@ -96,6 +106,8 @@ XdesApplies db (Enable id masks) xdes = IsNewXdes db xdes
 XdesApplies db (Disable id) xdes = IsNewXdes db xdes
 XdesApplies db (Database keep) xdes = IsNewXdes db xdes
 
+-- an entry applies: its version is the database's, plus 1 where it draws, its time is not before the database's, and
+-- both are at most 2^62; its transaction number is one that it may have, and its act applies
 pub record Applies (db : Db) (entry : Entry) : Type 0 where
   pub version : entry.version ≡ (if entry.draws then db.version + 1 else db.version)
   pub version_within : entry.version ≤ 2 ^ 62

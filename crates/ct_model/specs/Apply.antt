@@ -36,15 +36,16 @@ truncated id version draws table =
 abbrev pub raised : Min → Table → Table
 raised listed table = if table.schema.id == listed.table then record table { tracked = with_min listed.min table.tracked } else table
 
--- the tables after an act of an entry with this version
+-- the tables after an act of an entry with this version: a defined table goes last, without rows and untracked, and an
+-- enabled one has the version as its minimum
 abbrev pub tables_after : Act → ℕ → Bool → List Table → List Table
-tables_after (Commit writes) version draws tables = fold (λ tables write. map (written write) tables) tables writes
+tables_after (Commit writes) version draws tables = fold (λ before write. map (written write) before) tables writes
 tables_after (Define schema) version draws tables = tables ++ record { schema = schema; rows = []; tracked = None } ∷ []
 tables_after (Truncate id) version draws tables = map (truncated id version draws) tables
 tables_after (Enable id masks) version draws tables = map (tracked_as id (Some (record { min = version; masks = masks }))) tables
 tables_after (Disable id) version draws tables = map (tracked_as id None) tables
 tables_after (Database keep) version draws tables = tables
-tables_after (Raise minima) version draws tables = fold (λ tables listed. map (raised listed) tables) tables minima
+tables_after (Raise minima) version draws tables = fold (λ before listed. map (raised listed) before) tables minima
 
 -- the settings after an act
 abbrev pub keep_after : Act → Option Keep → Option Keep
@@ -69,6 +70,7 @@ changes_of (Disable id) = []
 changes_of (Database keep) = []
 changes_of (Raise minima) = []
 
+-- the commit of an entry that draws, with its changes
 abbrev pub kept_of : Entry → Kept
 kept_of entry = record { version = entry.version; xdes = entry.xdes; time = entry.time; changes = changes_of entry.act }
 
@@ -78,12 +80,13 @@ change_stays tables version change = list_any (λ table. table.schema.id == chan
 
 -- a commit stays while some tracked table has a minimum below its version
 abbrev pub commit_stays : List Table → Kept → Bool
-commit_stays tables kept = list_any (λ table. is_above kept.version table.tracked) tables
+commit_stays tables commit = list_any (λ table. is_above commit.version table.tracked) tables
 
 -- a commit with the changes that stay
 abbrev pub trim_one : List Table → Kept → Kept
-trim_one tables kept = record kept { changes = filter (change_stays tables kept.version) kept.changes }
+trim_one tables commit = record commit { changes = filter (change_stays tables commit.version) commit.changes }
 
+-- the commits that stay, each with the changes that stay
 abbrev pub trim : List Table → List Kept → List Kept
 trim tables kept = map (trim_one tables) (filter (commit_stays tables) kept)
 

@@ -17,7 +17,8 @@ IsName name = (1 ≤ length name) × (length name ≤ 128) × AllByRecursion IsN
 
 -- the name of a table is one name, or two with a full stop between them
 abbrev pub IsTableName : List ℕ → Type 0
-IsTableName name = IsName name ⊎ ((first : List ℕ) × (second : List ℕ) × (name ≡ first ++ codes "." ++ second) × IsName first × IsName second)
+IsTableName name =
+    IsName name ⊎ ((first : List ℕ) × (second : List ℕ) × (name ≡ first ++ codes "." ++ second) × IsName first × IsName second)
 
 -- the name has the schema `sys`: it begins with that word and a full stop, and goes on
 abbrev pub IsInSys : List ℕ → Type 0

@@ -32,7 +32,7 @@ change_columns =
 abbrev pub IsKeyColumn : Column → Type 0
 IsKeyColumn column = (column.nullable ≡ false) × AllByRecursion (λ name. folded column.name ≢ folded name) change_columns
 
--- the key is one column of the table
+-- the key is exactly one column of the table
 abbrev pub IsKey : List Column → List ℕ → Type 0
 IsKey columns [] = ⊥
 IsKey columns (id ∷ []) = (1 ≤ id) × IsSomeAnd (slice_get columns (id - 1)) IsKeyColumn

@@ -33,7 +33,7 @@ rows_with schema rows key row =
 abbrev pub table_of : List Table → ℕ → Option Table
 table_of tables id = find (λ table. table.schema.id == id) tables
 
--- whether a version is above the minimum of a tracked table
+-- whether a version is above the minimum of a table; of one that is not tracked, none is
 abbrev pub is_above : ℕ → Option Tracked → Bool
 is_above version None = false
 is_above version (Some tracked) = nat_lt tracked.min version

@@ -24,6 +24,7 @@ use Rattle.ct_model.specs.Tables.{key_of, table_of, is_above, has_masks}
 abbrev pub IsRetention : ℕ → Type 0
 IsRetention seconds = (60 ≤ seconds) × (seconds ≤ 2147483647 * 86400)
 
+-- the settings of a database that is on have a retention that is one
 abbrev pub IsKeepValid : Option Keep → Type 0
 IsKeepValid None = Unit {0}
 IsKeepValid (Some keep) = IsRetention keep.retention
@@ -42,6 +43,7 @@ abbrev pub IsTrackedValid : ℕ → Option Keep → Option Tracked → Type 0
 IsTrackedValid version keep None = Unit {0}
 IsTrackedValid version keep (Some tracked) = IsSome keep × (tracked.min ≤ version)
 
+-- the table's schema is one that a definition may give, its rows fit it and rise, and it is tracked as it may be
 pub record IsTableValid (version : ℕ) (keep : Option Keep) (table : Table) : Type 0 where
   pub schema : IsSchema table.schema
   pub rows : AllByRecursion (RowFits table.schema) table.rows
@@ -67,10 +69,12 @@ pub record ChangeFits (version : ℕ) (change : Change) (table : Table) : Type 0
   pub mask : MaskFits table change.op change.mask
   pub context : ContextFits change.context
 
+-- a kept change's table is there, and the change fits it
 abbrev pub IsChangeValid : List Table → ℕ → Change → Type 0
 IsChangeValid tables version change = IsSomeAnd (table_of tables change.table) (ChangeFits version change)
 
--- a kept commit is above the least minimum of a tracked table, and is none of the future
+-- a kept commit is above the least minimum of a tracked table; its version, transaction number and time are at most the
+-- database's
 pub record IsKeptValid (db : Db) (kept : Kept) : Type 0 where
   pub stays : commit_stays db.tables kept ≡ true
   pub version : kept.version ≤ db.version
@@ -84,6 +88,8 @@ pub record ComesBefore (kept later : Kept) : Type 0 where
   pub time : kept.time ≤ later.time
   pub xdes : kept.xdes ≢ later.xdes
 
+-- a valid database: version, time and transaction numbers are at most 2^62; the tables are numbered from 1 on, at most
+-- 256, with different names; and all its parts are valid
 pub record IsValid (db : Db) : Type 0 where
   pub version : db.version ≤ 2 ^ 62
   pub time : db.time ≤ 2 ^ 62

@@ -26,7 +26,8 @@ abbrev pub version_row_of : Option Dated → VersionRow
 version_row_of None = record { version = None; context = None }
 version_row_of (Some dated) = record { version = Some dated.version; context = dated.change.context }
 
--- CHANGETABLE(VERSION ..): the version and the context of the last kept change of a key, else NULL twice
+-- CHANGETABLE(VERSION ..): the version and the context of the last kept change of a key, else NULL twice. Versions count
+-- from 1, so all kept changes are above 0.
 abbrev pub row_version : Db → ℕ → Key → VersionRow
 row_version db id key = version_row_of (last_of (window (changes_above id 0 db.kept) key))
 

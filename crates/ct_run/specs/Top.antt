@@ -1,10 +1,10 @@
 -- What a call of `run_top` is, by its status.
-use Rattle.std.specs.Prelude.{◌≡◌, ◌≤◌, ◌<◌, ◌⊎◌, ℕ, codes, List, [], ◌∷◌, length, map, Option, String, string_bytes}
+use Rattle.std.specs.Prelude.{◌≡◌, ◌≤◌, ◌⊎◌, ℕ, codes, List, [], ◌∷◌, length, map, Option, String, string_bytes}
 use Rattle.std.specs.declared.alloc.Global.{Global}
 use Rattle.std.specs.Io.KnownBytes.{Appends, Consumes, IsAtEnd, Keeps}
 use Rattle.ct_types.specs.declared.command.Command.{Command}
 use Rattle.ct_types.specs.declared.command.Journaled.{Journaled}
-use Rattle.ct_faults.specs.Bytes.{most_bytes, AppendsFront, TakesAtMost}
+use Rattle.ct_faults.specs.Bytes.{most_bytes, AppendsFront, TakesAtMost, TakesTooMany}
 use Rattle.ct_faults.specs.Causes.{Rose}
 use Rattle.ct_model.specs.Apply.{no_db}
 use Rattle.ct_machine.specs.Machine.{opening}
@@ -95,17 +95,13 @@ Answers other sink bytes = ⊥
 abbrev pub AnswersAll : Status → SourceChange → SinkChange → Type 0
 AnswersAll status source sink = (bytes : List ℕ) × ReadsWhole source bytes × Answers status sink bytes
 
--- more bytes were taken than a script may have
-abbrev pub TakesTooMany : SourceChange → Type 0
-TakesTooMany source = (taken : List ℕ) × Consumes source.before source.now taken × (most_bytes < length taken)
-
 -- what a run of the word `run` is, by its status; there is no disk yet, so it neither fails nor is foreign
 abbrev pub Runs : Status → SourceChange → SinkChange → DiskChange → Type 0
 Runs Done source sink disk = AnswersAll Done source sink
 Runs WriteFault source sink disk = AnswersAll WriteFault source sink
 Runs BadScript source sink disk = AnswersAll BadScript source sink
 Runs ReadFault source sink disk = SourceFailed source × TakesAtMost source.before source.now × Says sink (codes "ReadFault\n")
-Runs TooLarge source sink disk = TakesTooMany source × Says sink (codes "TooLarge\n")
+Runs TooLarge source sink disk = TakesTooMany source.before source.now × Says sink (codes "TooLarge\n")
 Runs Memory source sink disk = (TakesAtMost source.before source.now × Keeps sink.before sink.now) ⊎ AnswersAll Memory source sink
 Runs DiskFault source sink disk = ⊥
 Runs Foreign source sink disk = ⊥

@@ -1,6 +1,6 @@
 ghost use Rattle.std.specs.Prelude.{◌≡◌, ◌↔◌, IsTrue, IsOk};
 ghost use Rattle.std.specs.Str.{IsUtf8};
-ghost use Rattle.ct_types.specs.ColumnFit.{code_points, has_kind, IsInt, IsBigInt, IsMissing, IsOutOfRange, IsTooLong, Fits};
+ghost use Rattle.ct_types.specs.ColumnFit.{code_points, has_kind, IsInt, IsMissing, IsOutOfRange, IsTooLong, Fits};
 
 use crate::{ColType, Column, Text, Value};
 
@@ -25,14 +25,6 @@ fn count_code_points(text: &Text) -> usize
         .iter()
         .filter(|byte| **byte < 128 || **byte >= 192)
         .count()
-}
-
-/// Each number of 64 bits is a BIGINT.
-fn is_big_int(number: i64) -> bool
-    ensures whole { IsTrue result }
-    ensures range { IsBigInt number }
-{
-    number >= i64::MIN
 }
 
 fn is_int(number: i64) -> bool
@@ -92,7 +84,7 @@ pub fn fits(column: &Column, value: &Value) -> Result<(), Misfit>
                 }
             }
             ColType::BigInt => {
-                let _whole = is_big_int(*number);
+                let _number = *number;
                 Ok(())
             }
             ColType::NVarChar(_) | ColType::VarBinary(_) => Ok(()),

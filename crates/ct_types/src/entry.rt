@@ -15,7 +15,7 @@ pub struct Change {
     pub table: u32,
     pub key: Key,
     pub op: Op,
-    /// The columns that an update sets: bit c - 1 stands for column id c.
+    /// The columns that an update of a table with masks sets: bit c - 1 stands for column id c. Else 0.
     pub mask: u64,
     /// The bytes that WITH CHANGE_TRACKING_CONTEXT gives, at most 128.
     pub context: Option<Bin>,
@@ -30,7 +30,7 @@ pub struct Write {
     /// The row after the write; none for a delete.
     pub row: Option<Row>,
     pub tracked: bool,
-    /// The columns that an update sets: bit c - 1 stands for column id c.
+    /// The columns that an update of a table with masks sets: bit c - 1 stands for column id c. Else 0.
     pub mask: u64,
     pub context: Option<Bin>,
 }
@@ -52,17 +52,23 @@ pub struct Min {
 /// What a committed transaction does.
 #[derive(Debug, Drop)]
 pub enum Act {
+    /// Writes rows, in this order.
     Commit(List<Write>),
+    /// Creates a table.
     Define(Schema),
+    /// Removes all rows of a table. Clients of a tracked one have to begin anew.
     Truncate(u32),
+    /// Begins to track a table, with the columns of its updates or without.
     Enable { table: u32, masks: bool },
+    /// Tracks a table no more.
     Disable(u32),
     /// The settings, or none where tracking goes off.
     Database(Option<Keep>),
+    /// Raises the minima of tables, by rising table: what cleanup does.
     Raise(List<Min>),
 }
 
-/// One committed transaction, or one definition or option that commits by itself.
+/// One committed transaction, or one definition, TRUNCATE, ENABLE, DISABLE, option or raise, each a commit of its own.
 #[derive(Debug, Drop)]
 pub struct Entry {
     /// The database's version after it.

@@ -1,14 +1,16 @@
 use crate::{Copies, List, Memory, Text};
 use std::alloc::Global;
 
-/// The type of a column, with the greatest length of its values, in code points or bytes.
+/// The type of a column, with the greatest length of its values.
 #[derive(Clone, Copy, Debug, PartialEq, Eq)]
 pub enum ColType {
     /// A number of 32 bits.
     Int,
     /// A number of 64 bits.
     BigInt,
+    /// A text of at most 1 to 4,000 code points.
     NVarChar(u16),
+    /// At most 1 to 8,000 bytes.
     VarBinary(u16),
 }
 

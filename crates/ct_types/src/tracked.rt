@@ -11,14 +11,17 @@ pub struct Tracked {
 #[derive(Debug, Drop)]
 pub struct NetRow {
     pub version: u64,
+    /// The version of the last insert since the version that the client named; none where there is none.
     pub creation: Option<u64>,
     pub op: Op,
+    /// The columns that the updates set; none where they are not told, which means all.
     pub mask: Option<u64>,
     pub context: Option<Bin>,
     pub key: Key,
 }
 
-/// The row of CHANGETABLE(VERSION ..): the version and the context of the last kept change of a key.
+/// The row of CHANGETABLE(VERSION ..): the version and the context of the last kept change of a key, none twice where
+/// there is no such change.
 #[derive(Debug, Drop)]
 pub struct VersionRow {
     pub version: Option<u64>,
