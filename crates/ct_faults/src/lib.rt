@@ -12,7 +12,8 @@ mod mem_source;
 mod no_disk;
 mod sink;
 mod source;
-mod std_streams;
+mod std_sink;
+mod std_source;
 #[cfg(test)]
 mod tests;
 mod whole;
@@ -24,5 +25,6 @@ pub use mem_source::MemSource;
 pub use no_disk::NoDisk;
 pub use sink::Sink;
 pub use source::Source;
-pub use std_streams::{StdSink, StdSource};
+pub use std_sink::StdSink;
+pub use std_source::StdSource;
 pub use whole::{ReadError, read_all, write_all};

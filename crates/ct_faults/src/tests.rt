@@ -1,8 +1,9 @@
-ghost use Rattle.std.specs.Io.{ReadsAtMost};
-ghost use Rattle.std.specs.Io.KnownBytes.{ReadConsumes};
-ghost use Rattle.ct_faults.specs.Causes.{HasCause};
+ghost use Rattle.std.specs.Prelude.{Some};
 
-use super::{Failed, MemSink, MemSource, ReadError, Sink, Source, WriteFault, read_all, write_all};
+use super::{
+    Disk, Failed, MemSink, MemSource, NoDisk, ReadError, Sink, Source, StdSink, StdSource,
+    WriteFault, read_all, write_all,
+};
 use ct_types::{Bin, Memory};
 
 /// A source that gives one byte at a time.
@@ -12,9 +13,9 @@ struct OneByte {
 }
 
 impl Source for OneByte {
-    ghost left = { λ s. MemSource.left s.inner };
+    ghost left = { λ s. Some s.inner.left };
 
-    ghost faults = { λ s. MemSource.faults s.inner };
+    ghost faults = { λ s. s.inner.faults };
 
     fn read(&mut self, buf: &mut [u8]) -> Result<usize, Failed> {
         let most = buf.len().min(1);
@@ -94,4 +95,17 @@ fn writes_within_the_room(rt: HostRuntime) -> Result<(), Memory> {
         assert_eq!(rt; sink.faults(), faults);
     }
     Ok(())
+}
+
+#[test]
+fn begins_without_faults(rt: HostRuntime) {
+    assert_eq!(rt; StdSource::new(&rt).faults(), 0);
+    let mut output = StdSink::new(&rt);
+    assert_eq!(rt; write_all(&mut output, b"a line\n"), Ok(()));
+    assert_eq!(rt; output.faults(), 0);
+    let mut disk = NoDisk::default();
+    assert_eq!(rt; disk.len(0), Ok(0));
+    assert_eq!(rt; disk.faults(), 0);
+    assert_eq!(rt; disk.sync(), Err(Failed));
+    assert_eq!(rt; disk.faults(), 1);
 }
