@@ -78,7 +78,8 @@ pub fn write_all<K: Sink>(sink: &mut K, bytes: &[u8]) -> Result<(), WriteFault>
 {
     let mut sent = 0;
     while sent < bytes.len() {
-        sent += sink.write(&bytes[sent..])?;
+        let count = sink.write(&bytes[sent..])?;
+        sent += count;
     }
     Ok(())
 }

@@ -11,6 +11,6 @@ loop-sent-preserved g c =
     let whole_rest : take (length all - c.loop-sent.sent) (drop c.loop-sent.sent all) ≡ drop c.loop-sent.sent all = grind (arith, common_steps) in
     record {
       within = grind (arith, common_steps);
-      appended = rw take-add (Appends-trans _ _ _ _ _ c.loop-sent.invariant.appended (rw whole_rest at c.in_ok-sent.ensures.bytes));
+      appended = rw take-add (Appends-trans _ _ _ _ _ c.loop-sent.invariant.appended (rw whole_rest at c.in_ok-count.ensures.bytes));
       later = omega arith;
     }
