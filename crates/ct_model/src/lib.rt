@@ -2,5 +2,7 @@
 #![tactic(auto)]
 
 mod db;
+mod laws;
 
 pub use db::{Dated, Db, Table};
+pub use laws::stays_valid;

@@ -1,0 +1,7 @@
+pub mod Carrying
+pub mod Fitting
+pub mod Following
+pub mod Found
+pub mod Keeping
+pub mod Members
+pub mod Rising
