@@ -1,0 +1,56 @@
+-- How a text is cut: tokens, and gaps between them, one after another.
+use Rattle.std.specs.Prelude.{◌≡◌, ℕ, ◌+◌, ◌<◌, ◌≤◌, if◌then◌else◌, Bool, true, false, ◌==◌, not, ◌&&◌, ◌||◌, List, [], ◌∷◌, ◌++◌, length, drop, slice_range, Option, Some, None}
+use Rattle.std.specs.List.{All}
+use Rattle.ct_lexer.specs.declared.token.Token.{Token}
+use Rattle.ct_lexer.specs.declared.token.TokenKind.{TokenKind}
+use Rattle.ct_lexer.specs.declared.token.LexError.{LexError}
+use Rattle.ct_lexer.specs.declared.token.LexError.TheVariants as errors
+use Rattle.ct_lexer.specs.Forms.{IsToken, IsGap}
+
+-- The bytes from the place `at` on are these tokens, with gaps before, between and behind them, up to the place `end`,
+-- where `rest` is left.
+pub data Cuts : ℕ → List ℕ → List Token → ℕ → List ℕ → Type 0 where
+  here : {at : ℕ} {bytes : List ℕ} → Cuts at bytes [] at bytes
+  gap : {at end : ℕ} {tokens : List Token} {rest : List ℕ} (word more : List ℕ) → IsGap word more
+      → Cuts (at + length word) more tokens end rest → Cuts at (word ++ more) tokens end rest
+  token : {at end : ℕ} {tokens : List Token} {rest : List ℕ} (kind : TokenKind) (word more : List ℕ) → IsToken kind word more
+      → Cuts (at + length word) more tokens end rest
+      → Cuts at (word ++ more) (record { kind = kind; from = at; to = at + length word } ∷ tokens) end rest
+
+-- the whole text is these tokens
+abbrev pub IsCut : List ℕ → List Token → Type 0
+IsCut text tokens = Cuts 0 text tokens (length text) []
+
+-- no front of the bytes is one of these
+abbrev pub Never : (List ℕ → List ℕ → Type 0) → List ℕ → Type 0
+Never Is bytes = (word more : List ℕ) → bytes ≡ word ++ more → Is word more → ⊥
+
+-- the front of this length is one of these
+pub record Begins (Is : List ℕ → List ℕ → Type 0) (bytes : List ℕ) (size : ℕ) : Type 0 where
+  pub word : List ℕ
+  pub more : List ℕ
+  pub cut : bytes ≡ word ++ more
+  pub long : length word ≡ size
+  pub is : Is word more
+
+-- up to the place `at` the text is cut, more follows, and neither a gap nor a token begins there
+pub record IsStuck (text : List ℕ) (at : ℕ) : Type 0 where
+  pub tokens : List Token
+  pub rest : List ℕ
+  pub cut : Cuts 0 text tokens at rest
+  pub some : 0 < length rest
+  pub no_gap : Never IsGap rest
+  pub no_token : (kind : TokenKind) → Never (IsToken kind) rest
+
+abbrev pub IsWrong : List ℕ → LexError → Type 0
+IsWrong text (errors.Syntax at) = IsStuck text at
+IsWrong text errors.Memory = Unit {0}
+
+-- the spans rise: each begins at the end of the one before it or later, has a byte at least, and lies within the text
+abbrev pub Rises : ℕ → List Token → ℕ → Type 0
+Rises from [] end = from ≤ end
+Rises from (t ∷ tokens) end = (from ≤ t.from) × (t.from < t.to) × Rises t.to tokens end
+
+-- the bytes of the token's span are a token of its kind
+abbrev pub Stands : List ℕ → Token → Type 0
+Stands text t = IsToken t.kind (slice_range text t.from t.to) (drop t.to text)

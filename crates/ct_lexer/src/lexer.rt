@@ -1,0 +1,35 @@
+ghost use Rattle.std.specs.Prelude.{◌≡◌, ◌<◌, ◌^◌, length, IfOk, IfErr};
+ghost use Rattle.ct_lexer.specs.Cutting.{IsCut, IsWrong, Rises};
+
+use crate::scan::{gap_len, token_at};
+use crate::{LexError, Token};
+use ct_types::List;
+use std::alloc::Global;
+
+/// The tokens of a text, in order, without the blanks and comments between them.
+pub fn tokens(alloc: Global, text: &str) -> Result<List<Token>, LexError>
+    requires { length text.now < 2 ^ 32 }
+    ensures cut { IfOk result (IsCut text.now) }
+    ensures rising { IfOk result (λ found. Rises 0 found (length text.now)) }
+    ensures wrong { IfErr result (IsWrong text.now) }
+{
+    let bytes = text.as_bytes();
+    let mut found = List::new(alloc);
+    let mut at = 0;
+    while at < bytes.len() {
+        let rest = &bytes[at..];
+        if let Some(len) = gap_len(rest) {
+            at += len;
+        } else if let Some((kind, len)) = token_at(rest) {
+            found.push(Token {
+                kind,
+                from: at as u32,
+                to: (at + len) as u32,
+            })?;
+            at += len;
+        } else {
+            return Err(LexError::Syntax(at as u32));
+        }
+    }
+    Ok(found)
+}

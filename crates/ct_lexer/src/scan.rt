@@ -1,0 +1,203 @@
+ghost use Rattle.std.specs.Prelude.{◌≡◌, ◌∷◌, [], MatchOption, Some};
+ghost use Rattle.ct_lexer.specs.Forms as forms;
+ghost use Rattle.ct_lexer.specs.Forms.{IsBareName, IsBracketed, IsVariable, IsNumber, IsQuoted, IsText, IsBytes, IsSign, IsToken, IsGap};
+ghost use Rattle.ct_lexer.specs.Cutting.{Never, Begins};
+
+use crate::TokenKind;
+use crate::byte::ByteClass;
+
+/// The longest name, bare or in its brackets' inside, in bytes.
+const MAX_NAME: usize = 128;
+
+/// The first byte, and the bytes behind it.
+fn split(bytes: &[u8]) -> Option<(u8, &[u8])>
+    ensures { MatchOption result (bytes.now ≡ []) (λ p. bytes.now ≡ p.0 ∷ p.1.now) }
+{
+    let (first, more) = bytes.split_first()?;
+    Some((*first, more))
+}
+
+/// How long the bare name at the front is.
+fn name_len(bytes: &[u8]) -> Option<usize>
+    ensures { MatchOption result (Never IsBareName bytes.now) (Begins IsBareName bytes.now) }
+{
+    let len = ByteClass::Name.run(bytes);
+    if ByteClass::Letter.starts(bytes) && len <= MAX_NAME {
+        Some(len)
+    } else {
+        None
+    }
+}
+
+fn variable_len(bytes: &[u8]) -> Option<usize>
+    ensures { MatchOption result (Never IsVariable bytes.now) (Begins IsVariable bytes.now) }
+{
+    let (first, more) = split(bytes)?;
+    if first != b'@' {
+        return None;
+    }
+    let len = name_len(more)?;
+    Some(1 + len)
+}
+
+fn number_len(bytes: &[u8]) -> Option<usize>
+    ensures { MatchOption result (Never IsNumber bytes.now) (Begins IsNumber bytes.now) }
+{
+    let len = ByteClass::Digit.run(bytes);
+    if len > 0 { Some(len) } else { None }
+}
+
+fn bracketed_len(bytes: &[u8]) -> Option<usize>
+    ensures { MatchOption result (Never IsBracketed bytes.now) (Begins IsBracketed bytes.now) }
+{
+    let (first, more) = split(bytes)?;
+    let inside = ByteClass::Bracketed.run(more);
+    if first == b'[' && 0 < inside && inside <= MAX_NAME && ByteClass::CloseBracket.starts(&more[inside..]) {
+        Some(inside + 2)
+    } else {
+        None
+    }
+}
+
+/// How long the part from the quote at the front to the one that closes it is.
+fn quoted_len(bytes: &[u8]) -> Option<usize>
+    ensures { MatchOption result (Never IsQuoted bytes.now) (Begins IsQuoted bytes.now) }
+{
+    if !ByteClass::Quote.starts(bytes) {
+        return None;
+    }
+    let mut at = 1;
+    while at < bytes.len() {
+        if bytes[at] != b'\'' {
+            at += 1;
+        } else if ByteClass::Quote.starts(&bytes[at + 1..]) {
+            at += 2;
+        } else {
+            return Some(at + 1);
+        }
+    }
+    None
+}
+
+fn text_len(bytes: &[u8]) -> Option<usize>
+    ensures { MatchOption result (Never IsText bytes.now) (Begins IsText bytes.now) }
+{
+    let (first, more) = split(bytes)?;
+    if ByteClass::TextMark.has(first) {
+        let len = quoted_len(more)?;
+        Some(1 + len)
+    } else {
+        quoted_len(bytes)
+    }
+}
+
+fn bytes_len(bytes: &[u8]) -> Option<usize>
+    ensures { MatchOption result (Never IsBytes bytes.now) (Begins IsBytes bytes.now) }
+{
+    let (zero, marked) = split(bytes)?;
+    let (mark, more) = split(marked)?;
+    let digits = ByteClass::HexDigit.run(more);
+    if zero == b'0' && ByteClass::BytesMark.has(mark) && digits % 2 == 0 {
+        Some(2 + digits)
+    } else {
+        None
+    }
+}
+
+fn begins_pair(first: u8, more: &[u8]) -> bool
+    ensures { result ≡ forms.begins_pair first more.now }
+{
+    match more.first() {
+        Some(next) => match first {
+            b'<' => *next == b'>' || *next == b'=',
+            b'>' | b'!' => *next == b'=',
+            _ => false,
+        },
+        None => false,
+    }
+}
+
+fn begins_comment(first: u8, more: &[u8]) -> bool
+    ensures { result ≡ forms.begins_comment first more.now }
+{
+    match more.first() {
+        Some(next) => first == b'-' && *next == b'-',
+        None => false,
+    }
+}
+
+fn sign_len(bytes: &[u8]) -> Option<usize>
+    ensures { MatchOption result (Never IsSign bytes.now) (Begins IsSign bytes.now) }
+{
+    let (first, more) = split(bytes)?;
+    if begins_pair(first, more) {
+        Some(2)
+    } else if ByteClass::Sign.has(first) && !begins_comment(first, more) {
+        Some(1)
+    } else {
+        None
+    }
+}
+
+/// The only kind that a token at the front may have.
+fn kind_at(bytes: &[u8]) -> Option<TokenKind>
+    ensures { result ≡ forms.kind_at bytes.now }
+{
+    let (first, more) = split(bytes)?;
+    let quoted = ByteClass::Quote.starts(more);
+    if ByteClass::Quote.has(first) || ByteClass::TextMark.has(first) && quoted {
+        Some(TokenKind::Text)
+    } else if first == b'0' && ByteClass::BytesMark.starts(more) {
+        Some(TokenKind::Bytes)
+    } else if ByteClass::Letter.has(first) {
+        Some(TokenKind::Name)
+    } else if ByteClass::Digit.has(first) {
+        Some(TokenKind::Number)
+    } else if first == b'@' {
+        Some(TokenKind::Variable)
+    } else if first == b'[' {
+        Some(TokenKind::Bracketed)
+    } else if begins_pair(first, more) || ByteClass::Sign.has(first) && !begins_comment(first, more) {
+        Some(TokenKind::Sign)
+    } else {
+        None
+    }
+}
+
+fn token_len(kind: TokenKind, bytes: &[u8]) -> Option<usize>
+    requires { forms.kind_at bytes.now ≡ Some kind }
+    ensures { MatchOption result (Never (IsToken kind) bytes.now) (Begins (IsToken kind) bytes.now) }
+{
+    match kind {
+        TokenKind::Name => name_len(bytes),
+        TokenKind::Bracketed => bracketed_len(bytes),
+        TokenKind::Variable => variable_len(bytes),
+        TokenKind::Number => number_len(bytes),
+        TokenKind::Text => text_len(bytes),
+        TokenKind::Bytes => bytes_len(bytes),
+        TokenKind::Sign => sign_len(bytes),
+    }
+}
+
+/// The kind and the length of the token at the front.
+pub fn token_at(bytes: &[u8]) -> Option<(TokenKind, usize)>
+    ensures { MatchOption result ((kind : TokenKind) → Never (IsToken kind) bytes.now) (λ found. Begins (IsToken found.0) bytes.now found.1) }
+{
+    let kind = kind_at(bytes)?;
+    let len = token_len(kind, bytes)?;
+    Some((kind, len))
+}
+
+/// How long the blank or the comment at the front is.
+pub fn gap_len(bytes: &[u8]) -> Option<usize>
+    ensures { MatchOption result (Never IsGap bytes.now) (Begins IsGap bytes.now) }
+{
+    let (first, more) = split(bytes)?;
+    if ByteClass::Blank.has(first) {
+        Some(1)
+    } else if begins_comment(first, more) {
+        Some(1 + ByteClass::Comment.run(more))
+    } else {
+        None
+    }
+}
