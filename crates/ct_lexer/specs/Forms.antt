@@ -29,9 +29,9 @@ pub record IsVariable (word more : List ℕ) : Type 0 where
   pub spelled : word ≡ 64 ∷ name
   pub named : IsBareName name more
 
--- digits, and no more of them behind it
+-- digits, one at least, and no more of them behind it
 pub record IsNumber (word more : List ℕ) : Type 0 where
-  pub first : starts byte.Digit word ≡ true
+  pub some : 0 < length word
   pub bytes : AllOf byte.Digit word
   pub whole : Stops byte.Digit more
 

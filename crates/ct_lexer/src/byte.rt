@@ -1,4 +1,4 @@
-ghost use Rattle.std.specs.Prelude.{◌≡◌};
+ghost use Rattle.std.specs.Prelude.{◌≡◌, ◌≤◌, length};
 ghost use Rattle.std.specs.List.{prefix_len};
 ghost use Rattle.ct_lexer.specs.Bytes.{belongs, starts};
 
@@ -55,7 +55,8 @@ impl ByteClass {
 
     /// How many bytes from the front on are of this class.
     pub fn run(self, bytes: &[u8]) -> usize
-        ensures { result ≡ prefix_len (belongs self) bytes.now }
+        ensures run { result ≡ prefix_len (belongs self) bytes.now }
+        ensures within { result ≤ length bytes.now }
     {
         bytes.iter().take_while(|byte| self.has(**byte)).count()
     }

@@ -1,6 +1,8 @@
 ghost use Rattle.std.specs.Prelude.{◌≡◌, ◌∷◌, [], MatchOption, Some};
 ghost use Rattle.ct_lexer.specs.Forms as forms;
 ghost use Rattle.ct_lexer.specs.Forms.{IsBareName, IsBracketed, IsVariable, IsNumber, IsQuoted, IsText, IsBytes, IsSign, IsToken, IsGap};
+ghost use Rattle.ct_lexer.specs.declared.byte.ByteClass.TheVariants as class;
+ghost use Rattle.ct_lexer.specs.Bytes.{Stops};
 ghost use Rattle.ct_lexer.specs.Cutting.{Never, Begins};
 
 use crate::TokenKind;
@@ -29,6 +31,7 @@ fn name_len(bytes: &[u8]) -> Option<usize>
     }
 }
 
+#[tactic(auto, using(crate::proofs::Names::variable_begins))]
 fn variable_len(bytes: &[u8]) -> Option<usize>
     ensures { MatchOption result (Never IsVariable bytes.now) (Begins IsVariable bytes.now) }
 {
@@ -47,38 +50,51 @@ fn number_len(bytes: &[u8]) -> Option<usize>
     if len > 0 { Some(len) } else { None }
 }
 
+#[tactic(auto, using(crate::proofs::Names::bracket_begins))]
 fn bracketed_len(bytes: &[u8]) -> Option<usize>
     ensures { MatchOption result (Never IsBracketed bytes.now) (Begins IsBracketed bytes.now) }
 {
     let (first, more) = split(bytes)?;
     let inside = ByteClass::Bracketed.run(more);
-    if first == b'[' && 0 < inside && inside <= MAX_NAME && ByteClass::CloseBracket.starts(&more[inside..]) {
+    let (_, behind) = more.split_at(inside);
+    let closed = ByteClass::CloseBracket.starts(behind);
+    if first == b'[' && closed && 0 < inside && inside <= MAX_NAME {
         Some(inside + 2)
     } else {
         None
     }
 }
 
+/// The bytes behind the quote at the front.
+fn past_quote(bytes: &[u8]) -> Option<&[u8]>
+    ensures { MatchOption result (Stops class.Quote bytes.now) (λ behind. bytes.now ≡ 39 ∷ behind.now) }
+{
+    let (first, behind) = split(bytes)?;
+    if first == b'\'' { Some(behind) } else { None }
+}
+
 /// How long the part from the quote at the front to the one that closes it is.
+#[tactic(auto, using(crate::proofs::Quotes::opened_plain, crate::proofs::Quotes::opened_pair, crate::proofs::Quotes::closed, crate::proofs::Quotes::not_closed))]
 fn quoted_len(bytes: &[u8]) -> Option<usize>
     ensures { MatchOption result (Never IsQuoted bytes.now) (Begins IsQuoted bytes.now) }
 {
-    if !ByteClass::Quote.starts(bytes) {
-        return None;
-    }
-    let mut at = 1;
-    while at < bytes.len() {
-        if bytes[at] != b'\'' {
-            at += 1;
-        } else if ByteClass::Quote.starts(&bytes[at + 1..]) {
-            at += 2;
+    let mut rest = past_quote(bytes)?;
+    let mut len = 1;
+    while let Some((byte, more)) = split(rest) {
+        if byte != b'\'' {
+            len += 1;
+            rest = more;
+        } else if let Some(behind) = past_quote(more) {
+            len += 2;
+            rest = behind;
         } else {
-            return Some(at + 1);
+            return Some(len + 1);
         }
     }
     None
 }
 
+#[tactic(auto, using(crate::proofs::Quotes::text_begins, crate::proofs::Quotes::plain_begins))]
 fn text_len(bytes: &[u8]) -> Option<usize>
     ensures { MatchOption result (Never IsText bytes.now) (Begins IsText bytes.now) }
 {
@@ -91,13 +107,15 @@ fn text_len(bytes: &[u8]) -> Option<usize>
     }
 }
 
+#[tactic(auto, using(crate::proofs::Marks::bytes_begins, crate::proofs::Marks::bytes_front))]
 fn bytes_len(bytes: &[u8]) -> Option<usize>
     ensures { MatchOption result (Never IsBytes bytes.now) (Begins IsBytes bytes.now) }
 {
     let (zero, marked) = split(bytes)?;
     let (mark, more) = split(marked)?;
+    let marks = ByteClass::BytesMark.has(mark);
     let digits = ByteClass::HexDigit.run(more);
-    if zero == b'0' && ByteClass::BytesMark.has(mark) && digits % 2 == 0 {
+    if zero == b'0' && marks && digits % 2 == 0 {
         Some(2 + digits)
     } else {
         None
@@ -126,6 +144,7 @@ fn begins_comment(first: u8, more: &[u8]) -> bool
     }
 }
 
+#[tactic(auto, using(crate::proofs::Marks::pair_begins, crate::proofs::Marks::single_begins))]
 fn sign_len(bytes: &[u8]) -> Option<usize>
     ensures { MatchOption result (Never IsSign bytes.now) (Begins IsSign bytes.now) }
 {
@@ -189,6 +208,7 @@ pub fn token_at(bytes: &[u8]) -> Option<(TokenKind, usize)>
 }
 
 /// How long the blank or the comment at the front is.
+#[tactic(auto, using(crate::proofs::Marks::blank_begins, crate::proofs::Marks::comment_begins))]
 pub fn gap_len(bytes: &[u8]) -> Option<usize>
     ensures { MatchOption result (Never IsGap bytes.now) (Begins IsGap bytes.now) }
 {
