@@ -1,7 +1,7 @@
 pub mod Cutting
-pub mod Kinds
 pub mod Marks
 pub mod Names
+pub mod Opening
 pub mod Quotes
 pub mod Runs
 pub mod Sizes

@@ -42,13 +42,12 @@ bytes_two b word more e bytes = let f : b ∷ [] ≡ (48 ∷ bytes.mark ∷ byte
 -- ---- signs
 
 -- a sign of two bytes, or of one
-pub SignFront : ℕ → List ℕ → List ℕ → Type 0
+abbrev pub SignFront : ℕ → List ℕ → List ℕ → Type 0
 SignFront b tail word =
     ((begins_pair b tail ≡ true) × (length word ≡ 2))
     ⊎ ((begins_pair b tail ≡ false) × (belongs byte.Sign b ≡ true) × (begins_comment b tail ≡ false) × (length word ≡ 1))
 
 pub sign_front : (b : ℕ) (tail word more : List ℕ) → b ∷ tail ≡ word ++ more → IsSign word more → SignFront b tail word
-unfolding SignFront
 sign_front b tail [] more e s = absurd s
 sign_front b tail (c ∷ []) more e s =
     let f : b ≡ c = cc in let g : tail ≡ more = cc in

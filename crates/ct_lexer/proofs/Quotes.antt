@@ -82,8 +82,8 @@ opened_plain bytes rest more size b o e f =
     let plain : belongs byte.Quote b ≡ false = ne_eqb b 39 f in
     further bytes more size b (b ∷ []) (cond-false (belongs byte.Quote b) (39 ∷ 39 ∷ []) (b ∷ []) plain) (rw e at o)
 
-pub opened_pair : (bytes rest more behind : List ℕ) (size b c : ℕ) → Opened bytes rest size → rest ≡ b ∷ more → b ≡ 39 → more ≡ c ∷ behind → c ≡ 39 → Opened bytes behind (size + 2)
-opened_pair bytes rest more behind size b c o e f g h = further bytes behind size 39 (39 ∷ 39 ∷ []) refl (rw (e, f, g, h) at o)
+pub opened_pair : (bytes rest more behind : List ℕ) (size b : ℕ) → Opened bytes rest size → rest ≡ b ∷ more → b ≡ 39 → more ≡ 39 ∷ behind → Opened bytes behind (size + 2)
+opened_pair bytes rest more behind size b o e f g = further bytes behind size 39 (39 ∷ 39 ∷ []) refl (rw (e, f, g) at o)
 
 pub closed : (bytes rest more : List ℕ) (size b : ℕ) → Opened bytes rest size → rest ≡ b ∷ more → b ≡ 39 → Stops byte.Quote more → Begins IsQuoted bytes (size + 1)
 closed bytes rest more size b o e f stops = record {

@@ -2,9 +2,11 @@
 #![tactic(auto)]
 
 mod byte;
+mod law;
 mod lexer;
 mod scan;
 mod token;
 
+pub use law::one_cutting;
 pub use lexer::tokens;
 pub use token::{LexError, Token, TokenKind};

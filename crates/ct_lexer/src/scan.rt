@@ -202,8 +202,12 @@ fn token_len(kind: TokenKind, bytes: &[u8]) -> Option<usize>
 pub fn token_at(bytes: &[u8]) -> Option<(TokenKind, usize)>
     ensures { MatchOption result ((kind : TokenKind) → Never (IsToken kind) bytes.now) (λ found. Begins (IsToken found.0) bytes.now found.1) }
 {
-    let kind = kind_at(bytes)?;
-    let len = token_len(kind, bytes)?;
+    let Some(kind) = kind_at(bytes) else {
+        return None;
+    };
+    let Some(len) = token_len(kind, bytes) else {
+        return None;
+    };
     Some((kind, len))
 }
 

@@ -9,6 +9,7 @@ use Rattle.ct_lexer.specs.declared.token.TokenKind.{TokenKind}
 use Rattle.ct_lexer.specs.declared.token.TokenKind.TheVariants as kind
 use Rattle.ct_lexer.specs.Bytes.{belongs, starts}
 use Rattle.ct_lexer.specs.Forms.{IsBareName, IsNumber, IsText, IsQuoted, IsMarked, IsBytes, IsSign, IsToken, IsGap, IsBlank, IsComment, begins_text, begins_bytes, begins_pair, begins_comment, begins_sign, is_pair, kind_at}
+use Rattle.ct_lexer.specs.Cutting.{Never}
 
 -- ---- which bytes are not of which class
 
@@ -170,3 +171,13 @@ blank_opens b more h = last (or_cases (b == 32 || b == 9 || b == 13) (b == 10) h
 pub no_kind : (word more : List ℕ) → IsGap word more → kind_at (word ++ more) ≡ None
 no_kind word more (inl blank) = rw blank.spelled (blank_opens blank.blank more blank.separates)
 no_kind word more (inr comment) = rw comment.spelled refl
+
+-- no token begins where the first bytes tell of none, and no other kind than the one that they tell of
+pub no_token : (bytes : List ℕ) → kind_at bytes ≡ None → (kind : TokenKind) → Never (IsToken kind) bytes
+no_token bytes none kind word more e t = let f : Some kind ≡ None = sym (opens kind word more t) ∙ sym (ap kind_at e) ∙ none in cc
+
+pub no_other : (bytes : List ℕ) (kind : TokenKind) → kind_at bytes ≡ Some kind → Never (IsToken kind) bytes → (other : TokenKind) → Never (IsToken other) bytes
+no_other bytes kind told never other word more e t =
+    let f : Some other ≡ Some kind = sym (opens other word more t) ∙ sym (ap kind_at e) ∙ told in
+    let same : other ≡ kind = cc in
+    never word more e (subst (λ k. IsToken k word more) same t)
