@@ -3,8 +3,9 @@ use Rattle.std.proofs.Common.{◌≡◌, ℕ, ◌+◌, ◌-◌, ◌<◌, ◌≤�
 use Rattle.std.proofs.lemmas.List.{drop_all, drop_at, drop-drop, append-nil, take_at, take_rest}
 use Rattle.ct_lexer.specs.declared.token.Token.{Token}
 use Rattle.ct_lexer.specs.declared.token.TokenKind.{TokenKind}
-use Rattle.ct_lexer.specs.Forms.{IsToken, IsGap}
-use Rattle.ct_lexer.specs.Cutting.{Cuts, here, gap, token, Begins, Never, IsStuck, IsCut, Rises}
+use Rattle.ct_lexer.specs.Tokens.{IsToken, IsGap}
+use Rattle.ct_lexer.specs.Cutting.{Cuts, here, gap, token, Never, IsStuck, IsCut}
+use Rattle.ct_lexer.specs.Scanning.{Begins}
 use Rattle.ct_lexer.proofs.Sizes.{some_token, some_gap, one_kind, no_both, one_token_size, one_gap_size, same_rest}
 
 -- ---- one piece more
@@ -29,16 +30,6 @@ cut_length here = refl
 cut_length (gap word more g c) = simp length-append (omega (arith, cut_length c))
 cut_length (token kind word more t c) = simp length-append (omega (arith, cut_length c))
 
--- the spans rise
-earlier : (from at end : ℕ) (tokens : List Token) → from ≤ at → Rises at tokens end → Rises from tokens end
-earlier from at end [] h r = omega arith
-earlier from at end (t ∷ tokens) h r = (omega (arith, r.0), r.1, r.2)
-
-pub cut_rises : {at end : ℕ} {bytes : List ℕ} {tokens : List Token} {rest : List ℕ} → Cuts at bytes tokens end rest → Rises at tokens end
-cut_rises here = omega arith
-cut_rises {at = at} {end = end} (gap {tokens = tokens} word more g c) = earlier at (at + length word) end tokens (omega arith) (cut_rises c)
-cut_rises (token kind word more t c) = (omega arith, omega (arith, some_token kind word more t), cut_rises c)
-
 -- ---- the loop of `tokens`
 
 -- what is cut off before the place `at`
@@ -49,7 +40,7 @@ pub record CutTo (text : List ℕ) (tokens : List Token) (at : ℕ) : Type 0 whe
 pub cut_none : (text : List ℕ) (tokens : List Token) → tokens ≡ [] → CutTo text tokens 0
 cut_none text tokens e = rw e (record { within = omega arith; cut = here })
 
-behind_word : (text : List ℕ) (at n : ℕ) (word more : List ℕ) → drop at text ≡ word ++ more → length word ≡ n → at ≤ length text → (more ≡ drop (at + n) text) × (at + n ≤ length text)
+pub behind_word : (text : List ℕ) (at n : ℕ) (word more : List ℕ) → drop at text ≡ word ++ more → length word ≡ n → at ≤ length text → (more ≡ drop (at + n) text) × (at + n ≤ length text)
 behind_word text at n word more e size h =
     (sym (drop_at word more n size) ∙ ap (λ z. drop n z) (sym e) ∙ drop-drop n at text,
      let long : length (drop at text) ≡ n + length more = rw e (simp length-append (omega (arith, size))) in omega (arith, long, length-drop at text))
@@ -72,9 +63,6 @@ whole text tokens at c h =
     let end : at ≡ length text = omega (arith, c.within) in
     let none : drop at text ≡ [] = rw end (drop_all (length text) text (omega arith)) in
     rw (none, end) at c.cut
-
-pub whole_rises : (text : List ℕ) (tokens : List Token) (at : ℕ) → CutTo text tokens at → length text ≤ at → Rises 0 tokens (length text)
-whole_rises text tokens at c h = cut_rises (whole text tokens at c h)
 
 pub stuck : (text rest : List ℕ) (tokens : List Token) (at : ℕ) → CutTo text tokens at → rest ≡ drop at text → at < length text → Never IsGap rest → ((kind : TokenKind) → Never (IsToken kind) rest) → IsStuck text at
 stuck text rest tokens at c e h no_gap no_token = record {

@@ -1,3 +1,4 @@
+pub mod Ascii
 pub mod Cutting
 pub mod Marks
 pub mod Names
@@ -5,3 +6,4 @@ pub mod Opening
 pub mod Quotes
 pub mod Runs
 pub mod Sizes
+pub mod Spans

@@ -5,8 +5,9 @@ use Rattle.std.specs.List.{prefix_len}
 use Rattle.std.proofs.lemmas.Bool.{both_ways, eqb-true, and_parts}
 use Rattle.ct_lexer.specs.declared.byte.ByteClass.TheVariants as byte
 use Rattle.ct_lexer.specs.Bytes.{belongs, starts, AllOf, Stops}
-use Rattle.ct_lexer.specs.Forms.{IsBytes, IsSign, IsBlank, IsComment, IsGap, is_pair, begins_pair, begins_comment}
-use Rattle.ct_lexer.specs.Cutting.{Begins, Never}
+use Rattle.ct_lexer.specs.Tokens.{IsBytes, IsSign, IsBlank, IsComment, IsGap, is_pair, begins_pair, begins_comment}
+use Rattle.ct_lexer.specs.Cutting.{Never}
+use Rattle.ct_lexer.specs.Scanning.{Begins}
 use Rattle.ct_lexer.proofs.Runs.{run_size, front_run}
 
 -- ---- bytes

@@ -8,8 +8,9 @@ use Rattle.std.proofs.lemmas.List.{drop_at}
 use Rattle.ct_lexer.specs.declared.byte.ByteClass.{ByteClass}
 use Rattle.ct_lexer.specs.declared.byte.ByteClass.TheVariants as byte
 use Rattle.ct_lexer.specs.Bytes.{belongs, starts, AllOf, Stops}
-use Rattle.ct_lexer.specs.Forms.{IsBareName, IsBracketed, IsVariable, IsNumber}
-use Rattle.ct_lexer.specs.Cutting.{Begins, Never}
+use Rattle.ct_lexer.specs.Tokens.{IsBareName, IsBracketed, IsVariable, IsNumber}
+use Rattle.ct_lexer.specs.Cutting.{Never}
+use Rattle.ct_lexer.specs.Scanning.{Begins}
 use Rattle.ct_lexer.proofs.Runs.{IsRun, run_size, front_run}
 
 -- a byte of the class at the front of the word is one at the front of the bytes

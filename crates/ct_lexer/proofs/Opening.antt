@@ -8,7 +8,8 @@ use Rattle.ct_lexer.specs.declared.byte.ByteClass.TheVariants as byte
 use Rattle.ct_lexer.specs.declared.token.TokenKind.{TokenKind}
 use Rattle.ct_lexer.specs.declared.token.TokenKind.TheVariants as kind
 use Rattle.ct_lexer.specs.Bytes.{belongs, starts}
-use Rattle.ct_lexer.specs.Forms.{IsBareName, IsNumber, IsText, IsQuoted, IsMarked, IsBytes, IsSign, IsToken, IsGap, IsBlank, IsComment, begins_text, begins_bytes, begins_pair, begins_comment, begins_sign, is_pair, kind_at}
+use Rattle.ct_lexer.specs.Scanning.{begins_sign, kind_at}
+use Rattle.ct_lexer.specs.Tokens.{IsBareName, IsNumber, IsText, IsQuoted, IsMarked, IsBytes, IsSign, IsToken, IsGap, IsBlank, IsComment, begins_text, begins_bytes, begins_pair, begins_comment, is_pair}
 use Rattle.ct_lexer.specs.Cutting.{Never}
 
 -- ---- which bytes are not of which class
@@ -63,7 +64,7 @@ marked_opens : (mark : ℕ) (quoted more : List ℕ) → (mark ≡ 78) ⊎ (mark
 marked_opens mark quoted more (inl e) text = rw (e, text.spelled) refl
 marked_opens mark quoted more (inr e) text = rw (e, text.spelled) refl
 
-mark_cases : (b m n : ℕ) → (b == m || b == n) ≡ true → (b ≡ m) ⊎ (b ≡ n)
+pub mark_cases : (b m n : ℕ) → (b == m || b == n) ≡ true → (b ≡ m) ⊎ (b ≡ n)
 mark_cases b m n h = at (or_cases (b == m) (b == n) h)
   where
   at : ((b == m) ≡ true) ⊎ ((b == n) ≡ true) → (b ≡ m) ⊎ (b ≡ n)

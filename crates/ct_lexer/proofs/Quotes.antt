@@ -5,8 +5,9 @@ use Rattle.std.proofs.lemmas.Bool.{both_ways, eqb-true, ne_eqb, cond-true, cond-
 use Rattle.std.proofs.lemmas.List.{append-nil}
 use Rattle.ct_lexer.specs.declared.byte.ByteClass.TheVariants as byte
 use Rattle.ct_lexer.specs.Bytes.{belongs, starts, Stops}
-use Rattle.ct_lexer.specs.Forms.{IsQuoted, IsMarked, IsText, doubled}
-use Rattle.ct_lexer.specs.Cutting.{Begins, Never}
+use Rattle.ct_lexer.specs.Tokens.{IsQuoted, IsMarked, IsText, spelling}
+use Rattle.ct_lexer.specs.Cutting.{Never}
+use Rattle.ct_lexer.specs.Scanning.{Begins}
 
 -- the bytes of a text as they are written, one character after another
 data Written : List ℕ → Type 0 where
@@ -18,14 +19,14 @@ one_written : (b : ℕ) (bytes : List ℕ) (quote : Bool) → belongs byte.Quote
 one_written b bytes true e w = pair w
 one_written b bytes false e w = plain b e w
 
-written : (value : List ℕ) → Written (doubled value)
+written : (value : List ℕ) → Written (spelling value)
 written [] = none
-written (b ∷ value) = one_written b (doubled value) (belongs byte.Quote b) refl (written value)
+written (b ∷ value) = one_written b (spelling value) (belongs byte.Quote b) refl (written value)
 
 no_quote : (b : ℕ) → belongs byte.Quote b ≡ false → b ≡ 39 → ⊥
 no_quote b h e = both_ways true (rw e at h) refl
 
--- the quote that follows what is written, and is not doubled, is the first of its kind
+-- the quote that follows what is written, and is not spelling, is the first of its kind
 one_close : {xs ys : List ℕ} (more others : List ℕ) → Written xs → Written ys → Stops byte.Quote more → Stops byte.Quote others → xs ++ 39 ∷ more ≡ ys ++ 39 ∷ others → length xs ≡ length ys
 one_close more others none none h k e = refl
 one_close more others none (plain b f t) h k e = absurd (no_quote b f (cc))
@@ -56,12 +57,12 @@ no_close more (pair {bytes = xs} s) (pair {bytes = ys} t) h e = let rest : xs �
 -- a quote and what is written behind it, up to the rest
 pub record Opened (bytes rest : List ℕ) (size : ℕ) : Type 0 where
   pub value : List ℕ
-  pub cut : bytes ≡ 39 ∷ (doubled value ++ rest)
-  pub long : 1 + length (doubled value) ≡ size
+  pub cut : bytes ≡ 39 ∷ (spelling value ++ rest)
+  pub long : 1 + length (spelling value) ≡ size
 
-doubled-append : (xs ys : List ℕ) → doubled (xs ++ ys) ≡ doubled xs ++ doubled ys
-doubled-append [] ys = refl
-doubled-append (b ∷ xs) ys = by (belongs byte.Quote b) (doubled (xs ++ ys)) (doubled xs) (doubled ys) (doubled-append xs ys)
+spelling-append : (xs ys : List ℕ) → spelling (xs ++ ys) ≡ spelling xs ++ spelling ys
+spelling-append [] ys = refl
+spelling-append (b ∷ xs) ys = by (belongs byte.Quote b) (spelling (xs ++ ys)) (spelling xs) (spelling ys) (spelling-append xs ys)
   where
   by : (quote : Bool) (all front back : List ℕ) → all ≡ front ++ back → cond quote (39 ∷ 39 ∷ all) (b ∷ all) ≡ cond quote (39 ∷ 39 ∷ front) (b ∷ front) ++ back
   by true all front back e = ap (λ z. 39 ∷ 39 ∷ z) e
@@ -71,11 +72,11 @@ pub opened : (bytes rest : List ℕ) (b : ℕ) → bytes ≡ b ∷ rest → b �
 opened bytes rest b e f = record { value = []; cut = rw f at e; long = refl }
 
 -- one more character
-further : (bytes rest : List ℕ) (size : ℕ) (b : ℕ) (spelled : List ℕ) → doubled (b ∷ []) ≡ spelled → Opened bytes (spelled ++ rest) size → Opened bytes rest (size + length spelled)
+further : (bytes rest : List ℕ) (size : ℕ) (b : ℕ) (spelled : List ℕ) → spelling (b ∷ []) ≡ spelled → Opened bytes (spelled ++ rest) size → Opened bytes rest (size + length spelled)
 further bytes rest size b spelled e o = record {
     value = o.value ++ b ∷ [];
-    cut = o.cut ∙ ap (λ z. 39 ∷ z) (sym (append_assoc (doubled o.value) spelled rest) ∙ ap (λ z. z ++ rest) (ap (λ z. doubled o.value ++ z) (sym e) ∙ sym (doubled-append o.value (b ∷ []))));
-    long = rw (doubled-append o.value (b ∷ []), e) (simp length-append (omega (arith, o.long))) }
+    cut = o.cut ∙ ap (λ z. 39 ∷ z) (sym (append_assoc (spelling o.value) spelled rest) ∙ ap (λ z. z ++ rest) (ap (λ z. spelling o.value ++ z) (sym e) ∙ sym (spelling-append o.value (b ∷ []))));
+    long = rw (spelling-append o.value (b ∷ []), e) (simp length-append (omega (arith, o.long))) }
 
 pub opened_plain : (bytes rest more : List ℕ) (size b : ℕ) → Opened bytes rest size → rest ≡ b ∷ more → (b ≡ 39 → ⊥) → Opened bytes more (size + 1)
 opened_plain bytes rest more size b o e f =
@@ -87,29 +88,29 @@ opened_pair bytes rest more behind size b o e f g = further bytes behind size 39
 
 pub closed : (bytes rest more : List ℕ) (size b : ℕ) → Opened bytes rest size → rest ≡ b ∷ more → b ≡ 39 → Stops byte.Quote more → Begins IsQuoted bytes (size + 1)
 closed bytes rest more size b o e f stops = record {
-    word = 39 ∷ (doubled o.value ++ 39 ∷ []); more = more;
-    cut = o.cut ∙ ap (λ z. 39 ∷ z) (ap (λ z. doubled o.value ++ z) (e ∙ ap (λ b. b ∷ more) f) ∙ sym (append_assoc (doubled o.value) (39 ∷ []) more));
+    word = 39 ∷ (spelling o.value ++ 39 ∷ []); more = more;
+    cut = o.cut ∙ ap (λ z. 39 ∷ z) (ap (λ z. spelling o.value ++ z) (e ∙ ap (λ b. b ∷ more) f) ∙ sym (append_assoc (spelling o.value) (39 ∷ []) more));
     long = simp length-append (omega (arith, o.long));
     is = record { value = o.value; spelled = refl; closed = stops } }
 
 pub not_closed : (bytes rest : List ℕ) (size : ℕ) → Opened bytes rest size → rest ≡ [] → Never IsQuoted bytes
 not_closed bytes rest size o e word more f text =
-    let cut : 39 ∷ (doubled o.value ++ rest) ≡ (39 ∷ (doubled text.value ++ 39 ∷ [])) ++ more = sym o.cut ∙ rw text.spelled at f in
-    let inside : doubled o.value ++ rest ≡ (doubled text.value ++ 39 ∷ []) ++ more = cc in
-    let all : doubled o.value ≡ doubled text.value ++ 39 ∷ more = sym (append-nil (doubled o.value)) ∙ ap (λ z. doubled o.value ++ z) (sym e) ∙ inside ∙ append_assoc (doubled text.value) (39 ∷ []) more in
+    let cut : 39 ∷ (spelling o.value ++ rest) ≡ (39 ∷ (spelling text.value ++ 39 ∷ [])) ++ more = sym o.cut ∙ rw text.spelled at f in
+    let inside : spelling o.value ++ rest ≡ (spelling text.value ++ 39 ∷ []) ++ more = cc in
+    let all : spelling o.value ≡ spelling text.value ++ 39 ∷ more = sym (append-nil (spelling o.value)) ∙ ap (λ z. spelling o.value ++ z) (sym e) ∙ inside ∙ append_assoc (spelling text.value) (39 ∷ []) more in
     no_close more (written o.value) (written text.value) text.closed all
 
 pub quoted_first : (b : ℕ) (tail word more : List ℕ) → b ∷ tail ≡ word ++ more → IsQuoted word more → b ≡ 39
 quoted_first b tail word more e text =
-    let f : b ∷ tail ≡ (39 ∷ (doubled text.value ++ 39 ∷ [])) ++ more = rw text.spelled at e in cc
+    let f : b ∷ tail ≡ (39 ∷ (spelling text.value ++ 39 ∷ [])) ++ more = rw text.spelled at e in cc
 
 pub one_quoted : (word more other others : List ℕ) → word ++ more ≡ other ++ others → IsQuoted word more → IsQuoted other others → length word ≡ length other
 one_quoted word more other others e text twin =
-    let f : (39 ∷ (doubled text.value ++ 39 ∷ [])) ++ more ≡ (39 ∷ (doubled twin.value ++ 39 ∷ [])) ++ others = rw (text.spelled, twin.spelled) at e in
-    let inside : (doubled text.value ++ 39 ∷ []) ++ more ≡ (doubled twin.value ++ 39 ∷ []) ++ others = cc in
-    let all : doubled text.value ++ 39 ∷ more ≡ doubled twin.value ++ 39 ∷ others =
-        sym (append_assoc (doubled text.value) (39 ∷ []) more) ∙ inside ∙ append_assoc (doubled twin.value) (39 ∷ []) others in
-    let same : length (doubled text.value) ≡ length (doubled twin.value) = one_close more others (written text.value) (written twin.value) text.closed twin.closed all in
+    let f : (39 ∷ (spelling text.value ++ 39 ∷ [])) ++ more ≡ (39 ∷ (spelling twin.value ++ 39 ∷ [])) ++ others = rw (text.spelled, twin.spelled) at e in
+    let inside : (spelling text.value ++ 39 ∷ []) ++ more ≡ (spelling twin.value ++ 39 ∷ []) ++ others = cc in
+    let all : spelling text.value ++ 39 ∷ more ≡ spelling twin.value ++ 39 ∷ others =
+        sym (append_assoc (spelling text.value) (39 ∷ []) more) ∙ inside ∙ append_assoc (spelling twin.value) (39 ∷ []) others in
+    let same : length (spelling text.value) ≡ length (spelling twin.value) = one_close more others (written text.value) (written twin.value) text.closed twin.closed all in
     rw (text.spelled, twin.spelled) (simp length-append (omega (arith, same)))
 
 -- ---- texts, with an N or without

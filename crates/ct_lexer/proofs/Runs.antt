@@ -5,7 +5,7 @@ use Rattle.std.proofs.lemmas.Bool.{cond-true, cond-false, both_ways}
 use Rattle.std.proofs.lemmas.List.Elements.{All-nil, All-cons, All-head, All-tail}
 use Rattle.ct_lexer.specs.declared.byte.ByteClass.{ByteClass}
 use Rattle.ct_lexer.specs.Bytes.{belongs, starts, AllOf, Stops}
-use Rattle.ct_lexer.specs.Cutting.{Begins}
+use Rattle.ct_lexer.specs.Scanning.{Begins}
 
 -- bytes of the class, and no more of them behind
 pub record IsRun (class : ByteClass) (word more : List ℕ) : Type 0 where

@@ -7,7 +7,8 @@ use Rattle.ct_lexer.specs.declared.byte.ByteClass.TheVariants as byte
 use Rattle.ct_lexer.specs.declared.token.TokenKind.{TokenKind}
 use Rattle.ct_lexer.specs.declared.token.TokenKind.TheVariants as kind
 use Rattle.ct_lexer.specs.Bytes.{belongs, starts}
-use Rattle.ct_lexer.specs.Forms.{IsBareName, IsBracketed, IsVariable, IsNumber, IsText, IsQuoted, IsMarked, IsBytes, IsSign, IsToken, IsGap, IsBlank, IsComment, kind_at, begins_pair}
+use Rattle.ct_lexer.specs.Scanning.{kind_at}
+use Rattle.ct_lexer.specs.Tokens.{IsBareName, IsBracketed, IsVariable, IsNumber, IsText, IsQuoted, IsMarked, IsBytes, IsSign, IsToken, IsGap, IsBlank, IsComment, begins_pair}
 use Rattle.ct_lexer.proofs.Names.{name_front, variable_front, number_size, bracket_front}
 use Rattle.ct_lexer.proofs.Quotes.{one_quoted, quoted_first}
 use Rattle.ct_lexer.proofs.Marks.{bytes_front, bytes_two, SignFront, sign_front, comment_front, blank_front}

@@ -5,7 +5,7 @@ use Rattle.ct_lexer.specs.declared.token.Token.{Token}
 use Rattle.ct_lexer.specs.declared.token.TokenKind.{TokenKind}
 use Rattle.ct_lexer.specs.declared.token.LexError.{LexError}
 use Rattle.ct_lexer.specs.declared.token.LexError.TheVariants as errors
-use Rattle.ct_lexer.specs.Forms.{IsToken, IsGap}
+use Rattle.ct_lexer.specs.Tokens.{IsToken, IsGap}
 
 -- The bytes from the place `at` on are these tokens, with gaps before, between and behind them, up to the place `end`,
 -- where `rest` is left.
@@ -25,14 +25,6 @@ IsCut text tokens = Cuts 0 text tokens (length text) []
 abbrev pub Never : (List ℕ → List ℕ → Type 0) → List ℕ → Type 0
 Never Is bytes = (word more : List ℕ) → bytes ≡ word ++ more → Is word more → ⊥
 
--- the front of this length is one of these
-pub record Begins (Is : List ℕ → List ℕ → Type 0) (bytes : List ℕ) (size : ℕ) : Type 0 where
-  pub word : List ℕ
-  pub more : List ℕ
-  pub cut : bytes ≡ word ++ more
-  pub long : length word ≡ size
-  pub is : Is word more
-
 -- up to the place `at` the text is cut, more follows, and neither a gap nor a token begins there
 pub record IsStuck (text : List ℕ) (at : ℕ) : Type 0 where
   pub tokens : List Token
@@ -45,12 +37,3 @@ pub record IsStuck (text : List ℕ) (at : ℕ) : Type 0 where
 abbrev pub IsWrong : List ℕ → LexError → Type 0
 IsWrong text (errors.Syntax at) = IsStuck text at
 IsWrong text errors.Memory = Unit {0}
-
--- the spans rise: each begins at the end of the one before it or later, has a byte at least, and lies within the text
-abbrev pub Rises : ℕ → List Token → ℕ → Type 0
-Rises from [] end = from ≤ end
-Rises from (t ∷ tokens) end = (from ≤ t.from) × (t.from < t.to) × Rises t.to tokens end
-
--- the bytes of the token's span are a token of its kind
-abbrev pub Stands : List ℕ → Token → Type 0
-Stands text t = IsToken t.kind (slice_range text t.from t.to) (drop t.to text)

@@ -1,3 +1,5 @@
 pub mod Bytes
 pub mod Cutting
-pub mod Forms
+pub mod Scanning
+pub mod Spans
+pub mod Tokens

@@ -1,5 +1,6 @@
-ghost use Rattle.std.specs.Prelude.{◌≡◌, ◌<◌, ◌^◌, length, IfOk, IfErr};
-ghost use Rattle.ct_lexer.specs.Cutting.{IsCut, IsWrong, Rises};
+ghost use Rattle.std.specs.Prelude.{◌≡◌, ◌<◌, ◌^◌, length, IfOk, IfErr, All};
+ghost use Rattle.ct_lexer.specs.Cutting.{IsCut, IsWrong};
+ghost use Rattle.ct_lexer.specs.Spans.{AllFit, Rises, Stands};
 
 use crate::scan::{gap_len, token_at};
 use crate::{LexError, Token};
@@ -10,8 +11,12 @@ use std::alloc::Global;
 pub fn tokens(alloc: Global, text: &str) -> Result<List<Token>, LexError>
     requires { length text.now < 2 ^ 32 }
     ensures cut { IfOk result (IsCut text.now) }
-    ensures rising { IfOk result (λ found. Rises 0 found (length text.now)) }
     ensures wrong { IfErr result (IsWrong text.now) }
+
+    // what a cut text says of the spans
+    ensures words { IfOk result (All (Stands text.now)) }
+    ensures rising { IfOk result (λ found. Rises 0 found (length text.now)) }
+    ensures fitting { IfOk result (AllFit text.now) }
 {
     let bytes = text.as_bytes();
     let mut found = List::new(alloc);

@@ -1,9 +1,11 @@
 ghost use Rattle.std.specs.Prelude.{◌≡◌, ◌∷◌, [], MatchOption, Some};
-ghost use Rattle.ct_lexer.specs.Forms as forms;
-ghost use Rattle.ct_lexer.specs.Forms.{IsBareName, IsBracketed, IsVariable, IsNumber, IsQuoted, IsText, IsBytes, IsSign, IsToken, IsGap};
+ghost use Rattle.ct_lexer.specs.Scanning as scanning;
+ghost use Rattle.ct_lexer.specs.Tokens as forms;
+ghost use Rattle.ct_lexer.specs.Tokens.{IsBareName, IsBracketed, IsVariable, IsNumber, IsQuoted, IsText, IsBytes, IsSign, IsToken, IsGap};
 ghost use Rattle.ct_lexer.specs.declared.byte.ByteClass.TheVariants as class;
 ghost use Rattle.ct_lexer.specs.Bytes.{Stops};
-ghost use Rattle.ct_lexer.specs.Cutting.{Never, Begins};
+ghost use Rattle.ct_lexer.specs.Cutting.{Never};
+ghost use Rattle.ct_lexer.specs.Scanning.{Begins};
 
 use crate::TokenKind;
 use crate::byte::ByteClass;
@@ -160,7 +162,7 @@ fn sign_len(bytes: &[u8]) -> Option<usize>
 
 /// The only kind that a token at the front may have.
 fn kind_at(bytes: &[u8]) -> Option<TokenKind>
-    ensures { result ≡ forms.kind_at bytes.now }
+    ensures { result ≡ scanning.kind_at bytes.now }
 {
     let (first, more) = split(bytes)?;
     let quoted = ByteClass::Quote.starts(more);
@@ -184,7 +186,7 @@ fn kind_at(bytes: &[u8]) -> Option<TokenKind>
 }
 
 fn token_len(kind: TokenKind, bytes: &[u8]) -> Option<usize>
-    requires { forms.kind_at bytes.now ≡ Some kind }
+    requires { scanning.kind_at bytes.now ≡ Some kind }
     ensures { MatchOption result (Never (IsToken kind) bytes.now) (Begins (IsToken kind) bytes.now) }
 {
     match kind {

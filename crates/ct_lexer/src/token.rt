@@ -13,7 +13,7 @@ pub enum TokenKind {
     Variable,
     /// Digits.
     Number,
-    /// `'..'` or `N'..'`, with each quote inside doubled.
+    /// `'..'` or `N'..'`, with each quote inside spelling.
     Text,
     /// `0x` and an even number of hexadecimal digits, possibly none.
     Bytes,

@@ -37,15 +37,15 @@ pub record IsNumber (word more : List ℕ) : Type 0 where
 
 -- ---- texts and bytes
 
--- a text's characters as they are written: each quote twice
-abbrev pub doubled : List ℕ → List ℕ
-doubled [] = []
-doubled (b ∷ value) = if belongs byte.Quote b then 39 ∷ 39 ∷ doubled value else (b ∷ doubled value)
+-- how the characters of a text are written: each quote twice
+abbrev pub spelling : List ℕ → List ℕ
+spelling [] = []
+spelling (b ∷ value) = if belongs byte.Quote b then 39 ∷ 39 ∷ spelling value else (b ∷ spelling value)
 
 -- a quote, some characters and a quote. No further quote follows: two quotes are always one inside.
 pub record IsQuoted (word more : List ℕ) : Type 0 where
   pub value : List ℕ
-  pub spelled : word ≡ 39 ∷ (doubled value ++ 39 ∷ [])
+  pub spelled : word ≡ 39 ∷ (spelling value ++ 39 ∷ [])
   pub closed : Stops byte.Quote more
 
 -- the same behind an N
@@ -129,21 +129,3 @@ pub record IsComment (word more : List ℕ) : Type 0 where
 -- what separates tokens: a blank or a comment
 abbrev pub IsGap : List ℕ → List ℕ → Type 0
 IsGap word more = IsBlank word more ⊎ IsComment word more
-
--- ---- what the first bytes tell
-
-abbrev pub begins_sign : ℕ → List ℕ → Bool
-begins_sign b more = begins_pair b more || (belongs byte.Sign b && not (begins_comment b more))
-
--- the only kind that a token at the front of these bytes may have
-abbrev pub kind_at : List ℕ → Option TokenKind
-kind_at [] = None
-kind_at (b ∷ more) =
-    if begins_text (b ∷ more) then Some kind.Text
-    else if begins_bytes (b ∷ more) then Some kind.Bytes
-    else if belongs byte.Letter b then Some kind.Name
-    else if belongs byte.Digit b then Some kind.Number
-    else if b == 64 then Some kind.Variable
-    else if b == 91 then Some kind.Bracketed
-    else if begins_sign b more then Some kind.Sign
-    else None
