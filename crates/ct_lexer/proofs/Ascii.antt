@@ -1,5 +1,5 @@
 -- Tokens begin and end with ASCII characters.
-use Rattle.std.proofs.Common.{◌≡◌, ℕ, suc, ◌+◌, ◌-◌, ◌<◌, ◌≤◌, ◌⊎◌, Bool, true, false, List, [], ◌∷◌, ◌++◌, length, get_or, refl, sym, ap, ◌∙◌, subst, arith, inl, inr, length-append, append_assoc}
+use Rattle.std.proofs.Common.{◌≡◌, ℕ, suc, ◌-◌, ◌<◌, ◌≤◌, ◌⊎◌, Bool, true, false, List, [], ◌∷◌, ◌++◌, length, get_or, refl, arith, inl, inr, length-append}
 use Rattle.std.specs.Prelude.{◌==◌, ◌&&◌, ◌||◌, nat_lt, codes}
 use Rattle.std.specs.Int.{is_in_range}
 use Rattle.std.specs.List.{All, list_all, list_any}
@@ -10,8 +10,8 @@ use Rattle.ct_lexer.specs.declared.byte.ByteClass.{ByteClass}
 use Rattle.ct_lexer.specs.declared.byte.ByteClass.TheVariants as byte
 use Rattle.ct_lexer.specs.declared.token.TokenKind.{TokenKind}
 use Rattle.ct_lexer.specs.declared.token.TokenKind.TheVariants as kind
-use Rattle.ct_lexer.specs.Bytes.{belongs, starts, AllOf}
-use Rattle.ct_lexer.specs.Tokens.{IsBareName, IsBracketed, IsVariable, IsNumber, IsText, IsQuoted, IsMarked, IsBytes, IsSign, IsToken, is_pair, spelling}
+use Rattle.ct_lexer.specs.Bytes.{belongs, AllOf}
+use Rattle.ct_lexer.specs.Tokens.{IsBracketed, IsText, IsBytes, IsSign, IsToken, is_pair, spelling}
 use Rattle.ct_lexer.proofs.Opening.{mark_cases}
 use Rattle.ct_lexer.proofs.Sizes.{some_token}
 
@@ -26,9 +26,9 @@ this_ascii b n h k = let e : b ≡ n = eqb-true b n k in omega arith
 either : (x y : Bool) (b : ℕ) → (x ≡ true → b < 128) → (y ≡ true → b < 128) → (x || y) ≡ true → b < 128
 either x y b f g h = at (or_cases x y h)
   where
-  at : (x ≡ true) ⊎ (y ≡ true) → b < 128
-  at (inl k) = f k
-  at (inr k) = g k
+    at : (x ≡ true) ⊎ (y ≡ true) → b < 128
+    at (inl k) = f k
+    at (inr k) = g k
 
 name_ascii : (b : ℕ) → belongs byte.Name b ≡ true → b < 128
 name_ascii b =
@@ -48,9 +48,9 @@ among : (p : ℕ → Bool) (xs : List ℕ) (b : ℕ) → list_all p xs ≡ true 
 among p [] b h k = absurd (both_ways false refl k)
 among p (x ∷ xs) b h k = at (or_cases (x == b) (list_any (λ x. x == b) xs) k) (among p xs b (and_parts (p x) (list_all p xs) h).1)
   where
-  at : ((x == b) ≡ true) ⊎ (list_any (λ x. x == b) xs ≡ true) → (list_any (λ x. x == b) xs ≡ true → p b ≡ true) → p b ≡ true
-  at (inl e) next = rw (← eqb-true x b e) (and_parts (p x) (list_all p xs) h).0
-  at (inr e) next = next e
+    at : ((x == b) ≡ true) ⊎ (list_any (λ x. x == b) xs ≡ true) → (list_any (λ x. x == b) xs ≡ true → p b ≡ true) → p b ≡ true
+    at (inl e) next = rw (← eqb-true x b e) (and_parts (p x) (list_all p xs) h).0
+    at (inr e) next = next e
 
 sign_ascii : (b : ℕ) → belongs byte.Sign b ≡ true → b < 128
 sign_ascii b h = ltb-true b 128 (among (λ x. nat_lt x 128) (codes "(),.;=<>+-*") b refl h)
@@ -58,11 +58,11 @@ sign_ascii b h = ltb-true b 128 (among (λ x. nat_lt x 128) (codes "(),.;=<>+-*"
 pair_ascii : (b c : ℕ) → is_pair b c ≡ true → (b < 128) × (c < 128)
 pair_ascii b c h = at (or_cases (b == 60 && (c == 62 || c == 61)) ((b == 62 || b == 33) && c == 61) h)
   where
-  at : ((b == 60 && (c == 62 || c == 61)) ≡ true) ⊎ (((b == 62 || b == 33) && c == 61) ≡ true) → (b < 128) × (c < 128)
-  at (inl k) = let p = and_parts _ _ k in
-      (this_ascii b 60 (omega arith) p.0, either_ascii c 62 61 (omega arith) (omega arith) (mark_cases c 62 61 p.1))
-  at (inr k) = let p = and_parts _ _ k in
-      (either_ascii b 62 33 (omega arith) (omega arith) (mark_cases b 62 33 p.0), this_ascii c 61 (omega arith) p.1)
+    at : ((b == 60 && (c == 62 || c == 61)) ≡ true) ⊎ (((b == 62 || b == 33) && c == 61) ≡ true) → (b < 128) × (c < 128)
+    at (inl k) = let p = and_parts _ _ k in
+        (this_ascii b 60 (omega arith) p.0, either_ascii c 62 61 (omega arith) (omega arith) (mark_cases c 62 61 p.1))
+    at (inr k) = let p = and_parts _ _ k in
+        (either_ascii b 62 33 (omega arith) (omega arith) (mark_cases b 62 33 p.0), this_ascii c 61 (omega arith) p.1)
 
 -- ---- words that begin and end with ASCII
 
@@ -87,12 +87,12 @@ bracketed_each : (word more : List ℕ) → IsBracketed word more → All (λ b.
 bracketed_each word more t =
     let P : ℕ → Type 0 = λ b. b < 128 in
     rw t.spelled (put 91 (t.inside ++ 93 ∷ []) (omega arith)
-        (All-append P t.inside (93 ∷ []) (all_of byte.Bracketed t.inside bracketed_ascii t.bytes) (one 93 (omega arith))))
+    (All-append P t.inside (93 ∷ []) (all_of byte.Bracketed t.inside bracketed_ascii t.bytes) (one 93 (omega arith))))
 
 bytes_each : (word more : List ℕ) → IsBytes word more → All (λ b. b < 128) word
 bytes_each word more t =
     rw t.spelled (put 48 (t.mark ∷ t.digits) (omega arith)
-        (put t.mark t.digits (either_ascii t.mark 120 88 (omega arith) (omega arith) (mark_cases t.mark 120 88 t.marks)) (all_of byte.HexDigit t.digits hex_ascii t.bytes)))
+    (put t.mark t.digits (either_ascii t.mark 120 88 (omega arith) (omega arith) (mark_cases t.mark 120 88 t.marks)) (all_of byte.HexDigit t.digits hex_ascii t.bytes)))
 
 sign_each : (word more : List ℕ) → IsSign word more → All (λ b. b < 128) word
 sign_each [] more t = absurd t

@@ -1,6 +1,6 @@
 -- Cuts: one piece more at the end, what they say of the spans, and that a text has one.
-use Rattle.std.proofs.Common.{◌≡◌, ℕ, ◌+◌, ◌-◌, ◌<◌, ◌≤◌, List, [], ◌∷◌, ◌++◌, length, take, drop, refl, sym, ap, ◌∙◌, subst, arith, length-append, length-drop, append_assoc}
-use Rattle.std.proofs.lemmas.List.{drop_all, drop_at, drop-drop, append-nil, take_at, take_rest}
+use Rattle.std.proofs.Common.{◌≡◌, ℕ, ◌+◌, ◌<◌, ◌≤◌, List, [], ◌∷◌, ◌++◌, length, drop, refl, sym, ap, ◌∙◌, subst, arith, length-append, length-drop}
+use Rattle.std.proofs.lemmas.List.{drop_all, drop_at, drop-drop}
 use Rattle.ct_lexer.specs.declared.token.Token.{Token}
 use Rattle.ct_lexer.specs.declared.token.TokenKind.{TokenKind}
 use Rattle.ct_lexer.specs.Tokens.{IsToken, IsGap}
@@ -41,9 +41,10 @@ pub cut_none : (text : List ℕ) (tokens : List Token) → tokens ≡ [] → Cut
 cut_none text tokens e = rw e (record { within = omega arith; cut = here })
 
 pub behind_word : (text : List ℕ) (at n : ℕ) (word more : List ℕ) → drop at text ≡ word ++ more → length word ≡ n → at ≤ length text → (more ≡ drop (at + n) text) × (at + n ≤ length text)
-behind_word text at n word more e size h =
-    (sym (drop_at word more n size) ∙ ap (λ z. drop n z) (sym e) ∙ drop-drop n at text,
-     let long : length (drop at text) ≡ n + length more = rw e (simp length-append (omega (arith, size))) in omega (arith, long, length-drop at text))
+behind_word text at n word more e size h = (
+  sym (drop_at word more n size) ∙ ap (λ z. drop n z) (sym e) ∙ drop-drop n at text,
+  let long : length (drop at text) ≡ n + length more = rw e (simp length-append (omega (arith, size))) in omega (arith, long, length-drop at text),
+)
 
 pub past_gap : (text rest : List ℕ) (tokens : List Token) (at n : ℕ) → CutTo text tokens at → rest ≡ drop at text → Begins IsGap rest n → CutTo text tokens (at + n)
 past_gap text rest tokens at n c e b =
@@ -66,7 +67,13 @@ whole text tokens at c h =
 
 pub stuck : (text rest : List ℕ) (tokens : List Token) (at : ℕ) → CutTo text tokens at → rest ≡ drop at text → at < length text → Never IsGap rest → ((kind : TokenKind) → Never (IsToken kind) rest) → IsStuck text at
 stuck text rest tokens at c e h no_gap no_token = record {
-    tokens = tokens; rest = rest; cut = rw e c.cut; some = rw e (omega (arith, length-drop at text)); no_gap = no_gap; no_token = no_token }
+  tokens = tokens;
+  rest = rest;
+  cut = rw e c.cut;
+  some = rw e (omega (arith, length-drop at text));
+  no_gap = no_gap;
+  no_token = no_token;
+}
 
 -- ---- one cut
 
@@ -97,15 +104,17 @@ same_cut (token kind word more t c) (token other copy others v d) p e o u =
     let size = one_token_size kind word more copy others e t (subst (λ k. IsToken k copy others) (sym kinds) v) in
     let next : _ = same_cut c d (omega (arith, p, size)) (same_rest word more copy others e size) o u in
     record {
-        tokens_same = let f = next.tokens_same in rw (kinds, p, size, f) refl;
-        end_same = next.end_same;
-        rest_same = next.rest_same }
+      tokens_same = let f = next.tokens_same in rw (kinds, p, size, f) refl;
+      end_same = next.end_same;
+      rest_same = next.rest_same;
+    }
 
 -- neither a gap nor a token is empty, so none stands at the end
 pub over_end : IsOver []
 over_end = record {
-    no_gap = λ word more e g. let size : 0 ≡ length word + length more = ap length e ∙ length-append word more in omega (arith, size, some_gap word more g);
-    no_token = λ kind word more e t. let size : 0 ≡ length word + length more = ap length e ∙ length-append word more in omega (arith, size, some_token kind word more t) }
+  no_gap = λ word more e g. let size : 0 ≡ length word + length more = ap length e ∙ length-append word more in omega (arith, size, some_gap word more g);
+  no_token = λ kind word more e t. let size : 0 ≡ length word + length more = ap length e ∙ length-append word more in omega (arith, size, some_token kind word more t);
+}
 
 stuck_over : (text : List ℕ) (at : ℕ) (s : IsStuck text at) → IsOver s.rest
 stuck_over text at s = record { no_gap = s.no_gap; no_token = s.no_token }

@@ -1,12 +1,11 @@
 -- Bytes, signs, blanks and comments: forms whose first two bytes tell them.
-use Rattle.std.proofs.Common.{◌≡◌, ℕ, ◌+◌, ◌<◌, ◌≤◌, ◌⊎◌, Bool, true, false, List, [], ◌∷◌, ◌++◌, length, refl, sym, ap, ◌∙◌, subst, arith, inl, inr}
-use Rattle.std.specs.Prelude.{◌%◌, ◌==◌, ◌&&◌, ◌||◌}
+use Rattle.std.proofs.Common.{◌≡◌, ℕ, ◌+◌, ◌⊎◌, true, false, List, [], ◌∷◌, ◌++◌, length, refl, ap, ◌∙◌, arith, inl, inr}
+use Rattle.std.specs.Prelude.{◌%◌, ◌==◌}
 use Rattle.std.specs.List.{prefix_len}
 use Rattle.std.proofs.lemmas.Bool.{both_ways, eqb-true, and_parts}
 use Rattle.ct_lexer.specs.declared.byte.ByteClass.TheVariants as byte
-use Rattle.ct_lexer.specs.Bytes.{belongs, starts, AllOf, Stops}
-use Rattle.ct_lexer.specs.Tokens.{IsBytes, IsSign, IsBlank, IsComment, IsGap, is_pair, begins_pair, begins_comment}
-use Rattle.ct_lexer.specs.Cutting.{Never}
+use Rattle.ct_lexer.specs.Bytes.{belongs}
+use Rattle.ct_lexer.specs.Tokens.{IsBytes, IsSign, IsBlank, IsComment, IsGap, begins_pair, begins_comment}
 use Rattle.ct_lexer.specs.Scanning.{Begins}
 use Rattle.ct_lexer.proofs.Runs.{run_size, front_run}
 
@@ -32,10 +31,12 @@ pub bytes_begins : (all marked tail : List ℕ) (b c : ℕ) → all ≡ b ∷ ma
 bytes_begins all marked tail b c e f zero marks even =
     let run = front_run byte.HexDigit tail in
     record {
-        word = 48 ∷ c ∷ run.word; more = run.more;
-        cut = e ∙ ap (λ z. b ∷ z) f ∙ ap (λ b. b ∷ c ∷ tail) zero ∙ ap (λ z. 48 ∷ c ∷ z) run.cut;
-        long = omega (arith, run.long);
-        is = record { mark = c; digits = run.word; spelled = refl; marks = marks; bytes = run.is.bytes; even = rw run.long even; whole = run.is.whole } }
+      word = 48 ∷ c ∷ run.word;
+      more = run.more;
+      cut = e ∙ ap (λ z. b ∷ z) f ∙ ap (λ b. b ∷ c ∷ tail) zero ∙ ap (λ z. 48 ∷ c ∷ z) run.cut;
+      long = omega (arith, run.long);
+      is = record { mark = c; digits = run.word; spelled = refl; marks = marks; bytes = run.is.bytes; even = rw run.long even; whole = run.is.whole };
+    }
 
 pub bytes_two : (b : ℕ) (word more : List ℕ) → b ∷ [] ≡ word ++ more → IsBytes word more → ⊥
 bytes_two b word more e bytes = let f : b ∷ [] ≡ (48 ∷ bytes.mark ∷ bytes.digits) ++ more = rw bytes.spelled at e in cc
@@ -102,5 +103,9 @@ comment_begins bytes (c ∷ tail) b e h =
     let cut : bytes ≡ 45 ∷ 45 ∷ (run.word ++ run.more) = e ∙ ap (λ b. b ∷ c ∷ tail) first ∙ ap (λ c. 45 ∷ c ∷ tail) second ∙ ap (λ z. 45 ∷ 45 ∷ z) run.cut in
     let size : prefix_len (belongs byte.Comment) (c ∷ tail) ≡ 1 + prefix_len (belongs byte.Comment) tail = rw second refl in
     rw size (record {
-        word = 45 ∷ 45 ∷ run.word; more = run.more; cut = cut; long = omega (arith, run.long);
-        is = inr (record { said = run.word; spelled = refl; bytes = run.is.bytes; whole = run.is.whole }) })
+      word = 45 ∷ 45 ∷ run.word;
+      more = run.more;
+      cut = cut;
+      long = omega (arith, run.long);
+      is = inr (record { said = run.word; spelled = refl; bytes = run.is.bytes; whole = run.is.whole });
+    })

@@ -1,5 +1,5 @@
 -- Names, variables and numbers: what stands at the front of some bytes, by their longest runs.
-use Rattle.std.proofs.Common.{◌≡◌, ℕ, suc, ◌+◌, ◌<◌, ◌≤◌, Bool, true, false, List, [], ◌∷◌, ◌++◌, length, refl, sym, ap, ◌∙◌, subst, arith, append_assoc, length-append, drop}
+use Rattle.std.proofs.Common.{◌≡◌, ℕ, ◌+◌, ◌<◌, ◌≤◌, Bool, true, false, List, [], ◌∷◌, ◌++◌, length, refl, sym, ap, ◌∙◌, arith, append_assoc, length-append, drop}
 use Rattle.std.specs.Prelude.{◌==◌, ◌||◌}
 use Rattle.std.specs.Int.{is_in_range}
 use Rattle.std.specs.List.{prefix_len}
@@ -7,11 +7,10 @@ use Rattle.std.proofs.lemmas.Bool.{both_ways, eqb-true}
 use Rattle.std.proofs.lemmas.List.{drop_at}
 use Rattle.ct_lexer.specs.declared.byte.ByteClass.{ByteClass}
 use Rattle.ct_lexer.specs.declared.byte.ByteClass.TheVariants as byte
-use Rattle.ct_lexer.specs.Bytes.{belongs, starts, AllOf, Stops}
+use Rattle.ct_lexer.specs.Bytes.{belongs, starts, Stops}
 use Rattle.ct_lexer.specs.Tokens.{IsBareName, IsBracketed, IsVariable, IsNumber}
-use Rattle.ct_lexer.specs.Cutting.{Never}
 use Rattle.ct_lexer.specs.Scanning.{Begins}
-use Rattle.ct_lexer.proofs.Runs.{IsRun, run_size, front_run}
+use Rattle.ct_lexer.proofs.Runs.{run_size, front_run}
 
 -- a byte of the class at the front of the word is one at the front of the bytes
 starts_word : (class : ByteClass) (word more : List ℕ) → starts class word ≡ true → starts class (word ++ more) ≡ true
@@ -42,17 +41,27 @@ pub record NameFront (bytes word : List ℕ) : Type 0 where
 
 pub name_front : (bytes word more : List ℕ) → bytes ≡ word ++ more → IsBareName word more → NameFront bytes word
 name_front bytes word more e name = record {
-    first = rw e (starts_word byte.Letter word more name.first);
-    size = rw e (run_size byte.Name word more name.bytes name.whole);
-    short = name.short }
+  first = rw e (starts_word byte.Letter word more name.first);
+  size = rw e (run_size byte.Name word more name.bytes name.whole);
+  short = name.short;
+}
 
 pub name_begins : (bytes : List ℕ) → starts byte.Letter bytes ≡ true → prefix_len (belongs byte.Name) bytes ≤ 128 → Begins IsBareName bytes (prefix_len (belongs byte.Name) bytes)
 name_begins bytes first short =
     let run = front_run byte.Name bytes in
     let at : starts byte.Letter (run.word ++ run.more) ≡ true = rw run.cut at first in
-    record { word = run.word; more = run.more; cut = run.cut; long = run.long; is = record {
+    record {
+      word = run.word;
+      more = run.more;
+      cut = run.cut;
+      long = run.long;
+      is = record {
         first = starts_run byte.Letter byte.Name run.word run.more letter_is_name run.is.whole at;
-        bytes = run.is.bytes; whole = run.is.whole; short = rw run.long short } }
+        bytes = run.is.bytes;
+        whole = run.is.whole;
+        short = rw run.long short;
+      };
+    }
 
 -- ---- variables
 
@@ -71,8 +80,12 @@ variable_front b tail word more e variable =
 
 pub variable_begins : (bytes tail : List ℕ) (b n : ℕ) → bytes ≡ b ∷ tail → b ≡ 64 → Begins IsBareName tail n → Begins IsVariable bytes (1 + n)
 variable_begins bytes tail b n e f name = record {
-    word = 64 ∷ name.word; more = name.more; cut = e ∙ ap (λ b. b ∷ tail) f ∙ ap (λ z. 64 ∷ z) name.cut; long = omega (arith, name.long);
-    is = record { name = name.word; spelled = refl; named = name.is } }
+  word = 64 ∷ name.word;
+  more = name.more;
+  cut = e ∙ ap (λ b. b ∷ tail) f ∙ ap (λ z. 64 ∷ z) name.cut;
+  long = omega (arith, name.long);
+  is = record { name = name.word; spelled = refl; named = name.is };
+}
 
 -- ---- numbers
 
@@ -101,11 +114,12 @@ bracket_front b tail word more e name =
     let split : tail ≡ name.inside ++ 93 ∷ more = cut ∙ append_assoc name.inside (93 ∷ []) more in
     let size : prefix_len (belongs byte.Bracketed) tail ≡ length name.inside = rw split (run_size byte.Bracketed name.inside (93 ∷ more) name.bytes refl) in
     record {
-        opens = opens;
-        size = rw (size, name.spelled) (simp length-append (omega arith));
-        some = rw size name.some;
-        short = rw size name.short;
-        closes = rw (size, split, drop_at name.inside (93 ∷ more) (length name.inside) refl) refl }
+      opens = opens;
+      size = rw (size, name.spelled) (simp length-append (omega arith));
+      some = rw size name.some;
+      short = rw size name.short;
+      closes = rw (size, split, drop_at name.inside (93 ∷ more) (length name.inside) refl) refl;
+    }
 
 -- the closing bracket
 pub closing : (bytes : List ℕ) → starts byte.CloseBracket bytes ≡ true → (more : List ℕ) × (bytes ≡ 93 ∷ more)
@@ -117,12 +131,13 @@ pub bracket_begins : (bytes tail : List ℕ) (b : ℕ) → bytes ≡ b ∷ tail 
 bracket_begins bytes tail b e f some short closes =
     let run = front_run byte.Bracketed tail in
     let behind : drop (prefix_len (belongs byte.Bracketed) tail) tail ≡ run.more =
-        ap (λ z. drop (prefix_len (belongs byte.Bracketed) tail) z) run.cut ∙ drop_at run.word run.more (prefix_len (belongs byte.Bracketed) tail) run.long in
+    ap (λ z. drop (prefix_len (belongs byte.Bracketed) tail) z) run.cut ∙ drop_at run.word run.more (prefix_len (belongs byte.Bracketed) tail) run.long in
     let last = closing run.more (rw behind at closes) in
     let size : length (run.word ++ 93 ∷ []) ≡ prefix_len (belongs byte.Bracketed) tail + 1 = simp length-append (omega (arith, run.long)) in
     record {
-        word = 91 ∷ (run.word ++ 93 ∷ []);
-        more = last.0;
-        cut = e ∙ ap (λ b. b ∷ tail) f ∙ ap (λ z. 91 ∷ z) (run.cut ∙ ap (λ z. run.word ++ z) last.1 ∙ sym (append_assoc run.word (93 ∷ []) last.0));
-        long = omega (arith, size);
-        is = record { inside = run.word; spelled = refl; bytes = run.is.bytes; some = omega (arith, run.long, some); short = omega (arith, run.long, short) } }
+      word = 91 ∷ (run.word ++ 93 ∷ []);
+      more = last.0;
+      cut = e ∙ ap (λ b. b ∷ tail) f ∙ ap (λ z. 91 ∷ z) (run.cut ∙ ap (λ z. run.word ++ z) last.1 ∙ sym (append_assoc run.word (93 ∷ []) last.0));
+      long = omega (arith, size);
+      is = record { inside = run.word; spelled = refl; bytes = run.is.bytes; some = omega (arith, run.long, some); short = omega (arith, run.long, short) };
+    }

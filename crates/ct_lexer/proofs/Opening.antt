@@ -1,7 +1,6 @@
 -- The first bytes of a token tell its kind, and those of a gap that no token begins.
-use Rattle.std.proofs.Common.{◌≡◌, ℕ, ◌<◌, ◌≤◌, ◌⊎◌, Bool, true, false, cond, List, [], ◌∷◌, ◌++◌, length, Option, Some, None, refl, sym, ap, ◌∙◌, subst, arith, inl, inr}
+use Rattle.std.proofs.Common.{◌≡◌, ℕ, ◌≤◌, ◌⊎◌, Bool, true, false, cond, List, [], ◌∷◌, ◌++◌, Option, Some, None, refl, sym, ap, ◌∙◌, subst, arith, inl, inr}
 use Rattle.std.specs.Prelude.{◌==◌, ◌&&◌, ◌||◌, not}
-use Rattle.std.specs.List.{list_any}
 use Rattle.std.specs.Int.{is_in_range}
 use Rattle.std.proofs.lemmas.Bool.{both_ways, eqb-true, ne_eqb, and_parts, and_from, and_left, or_cases, or_from, or_left, or_right, not_from_false, cond-true, cond-false, leb-true, false_from_ne_true}
 use Rattle.ct_lexer.specs.declared.byte.ByteClass.TheVariants as byte
@@ -9,7 +8,7 @@ use Rattle.ct_lexer.specs.declared.token.TokenKind.{TokenKind}
 use Rattle.ct_lexer.specs.declared.token.TokenKind.TheVariants as kind
 use Rattle.ct_lexer.specs.Bytes.{belongs, starts}
 use Rattle.ct_lexer.specs.Scanning.{begins_sign, kind_at}
-use Rattle.ct_lexer.specs.Tokens.{IsBareName, IsNumber, IsText, IsQuoted, IsMarked, IsBytes, IsSign, IsToken, IsGap, IsBlank, IsComment, begins_text, begins_bytes, begins_pair, begins_comment, is_pair}
+use Rattle.ct_lexer.specs.Tokens.{IsBareName, IsNumber, IsText, IsQuoted, IsBytes, IsSign, IsToken, IsGap, begins_text, begins_bytes, begins_pair, begins_comment, is_pair}
 use Rattle.ct_lexer.specs.Cutting.{Never}
 
 -- ---- which bytes are not of which class
@@ -26,12 +25,13 @@ in_range low high b h = let p = and_parts _ _ h in (leb-true low b p.0, leb-true
 digit_no_letter : (b : ℕ) → belongs byte.Digit b ≡ true → belongs byte.Letter b ≡ false
 digit_no_letter b h = false_from_ne_true (belongs byte.Letter b) (λ k. at (or_cases (is_in_range 65 90 b || is_in_range 97 122 b) (b == 95) k))
   where
-  upper : (is_in_range 65 90 b ≡ true) ⊎ (is_in_range 97 122 b ≡ true) → ⊥
-  upper (inl k) = let r = digit_range b h in let s = in_range 65 90 b k in omega arith
-  upper (inr k) = let r = digit_range b h in let s = in_range 97 122 b k in omega arith
-  at : ((is_in_range 65 90 b || is_in_range 97 122 b) ≡ true) ⊎ ((b == 95) ≡ true) → ⊥
-  at (inl k) = upper (or_cases (is_in_range 65 90 b) (is_in_range 97 122 b) k)
-  at (inr k) = let r = digit_range b h in let e = eqb-true b 95 k in omega arith
+    upper : (is_in_range 65 90 b ≡ true) ⊎ (is_in_range 97 122 b ≡ true) → ⊥
+    upper (inl k) = let r = digit_range b h in let s = in_range 65 90 b k in omega arith
+    upper (inr k) = let r = digit_range b h in let s = in_range 97 122 b k in omega arith
+
+    at : ((is_in_range 65 90 b || is_in_range 97 122 b) ≡ true) ⊎ ((b == 95) ≡ true) → ⊥
+    at (inl k) = upper (or_cases (is_in_range 65 90 b) (is_in_range 97 122 b) k)
+    at (inr k) = let r = digit_range b h in let e = eqb-true b 95 k in omega arith
 
 -- ---- the tests of kind_at, one after another
 
@@ -57,7 +57,7 @@ number_opens (b ∷ word) more number h =
     let upper : (b == 78) ≡ false = not_this b (belongs byte.Digit) 78 digit refl in
     let lower : (b == 110) ≡ false = not_this b (belongs byte.Digit) 110 digit refl in
     let text : begins_text (b ∷ (word ++ more)) ≡ false =
-        or_from (b == 39) (belongs byte.TextMark b && starts byte.Quote (word ++ more)) quote (and_left (belongs byte.TextMark b) (starts byte.Quote (word ++ more)) (or_from (b == 78) (b == 110) upper lower)) in
+    or_from (b == 39) (belongs byte.TextMark b && starts byte.Quote (word ++ more)) quote (and_left (belongs byte.TextMark b) (starts byte.Quote (word ++ more)) (or_from (b == 78) (b == 110) upper lower)) in
     number_kind _ _ _ _ _ text h (digit_no_letter b digit) digit
 
 marked_opens : (mark : ℕ) (quoted more : List ℕ) → (mark ≡ 78) ⊎ (mark ≡ 110) → IsQuoted quoted more → kind_at (mark ∷ (quoted ++ more)) ≡ Some kind.Text
@@ -67,9 +67,9 @@ marked_opens mark quoted more (inr e) text = rw (e, text.spelled) refl
 pub mark_cases : (b m n : ℕ) → (b == m || b == n) ≡ true → (b ≡ m) ⊎ (b ≡ n)
 mark_cases b m n h = at (or_cases (b == m) (b == n) h)
   where
-  at : ((b == m) ≡ true) ⊎ ((b == n) ≡ true) → (b ≡ m) ⊎ (b ≡ n)
-  at (inl e) = inl (eqb-true b m e)
-  at (inr e) = inr (eqb-true b n e)
+    at : ((b == m) ≡ true) ⊎ ((b == n) ≡ true) → (b ≡ m) ⊎ (b ≡ n)
+    at (inl e) = inl (eqb-true b m e)
+    at (inr e) = inr (eqb-true b n e)
 
 text_opens : (word more : List ℕ) → IsText word more → kind_at (word ++ more) ≡ Some kind.Text
 text_opens word more (inl text) = rw text.spelled refl
@@ -95,9 +95,9 @@ at_sign b e more h = e more ∙ cond-true (begins_sign b more) (Some kind.Sign) 
 one_of : (P : ℕ → Type 0) (b x : ℕ) (rest : Bool) → P x → (rest ≡ true → P b) → (x == b || rest) ≡ true → P b
 one_of P b x rest p q h = at (or_cases (x == b) rest h)
   where
-  at : ((x == b) ≡ true) ⊎ (rest ≡ true) → P b
-  at (inl e) = subst P (eqb-true x b e) p
-  at (inr e) = q e
+    at : ((x == b) ≡ true) ⊎ (rest ≡ true) → P b
+    at (inl e) = subst P (eqb-true x b e) p
+    at (inr e) = q e
 
 single_opens : (b : ℕ) → belongs byte.Sign b ≡ true → Opens b
 single_opens b =
@@ -116,9 +116,9 @@ single_opens b =
 pair_first : (b c : ℕ) → is_pair b c ≡ true → (b ≡ 60) ⊎ ((b ≡ 62) ⊎ (b ≡ 33))
 pair_first b c h = at (or_cases (b == 60 && (c == 62 || c == 61)) ((b == 62 || b == 33) && c == 61) h)
   where
-  at : ((b == 60 && (c == 62 || c == 61)) ≡ true) ⊎ (((b == 62 || b == 33) && c == 61) ≡ true) → (b ≡ 60) ⊎ ((b ≡ 62) ⊎ (b ≡ 33))
-  at (inl k) = inl (eqb-true b 60 (and_parts _ _ k).0)
-  at (inr k) = inr (mark_cases b 62 33 (and_parts _ _ k).0)
+    at : ((b == 60 && (c == 62 || c == 61)) ≡ true) ⊎ (((b == 62 || b == 33) && c == 61) ≡ true) → (b ≡ 60) ⊎ ((b ≡ 62) ⊎ (b ≡ 33))
+    at (inl k) = inl (eqb-true b 60 (and_parts _ _ k).0)
+    at (inr k) = inr (mark_cases b 62 33 (and_parts _ _ k).0)
 
 pair_opens : (b : ℕ) → (b ≡ 60) ⊎ ((b ≡ 62) ⊎ (b ≡ 33)) → Opens b
 pair_opens b (inl e) = subst Opens (sym e) (at_sign 60 (λ m. refl))
@@ -152,22 +152,25 @@ no_pair b h (c ∷ more) = h c
 at_blank : (b : ℕ) (more : List ℕ) → kind_at (b ∷ more) ≡ cond (begins_sign b more) (Some kind.Sign) None → belongs byte.Sign b ≡ false → ((c : ℕ) → is_pair b c ≡ false) → kind_at (b ∷ more) ≡ None
 at_blank b more e sign pair =
     e ∙ cond-false (begins_sign b more) (Some kind.Sign) None
-        (or_from (begins_pair b more) (belongs byte.Sign b && not (begins_comment b more)) (no_pair b pair more) (and_left (belongs byte.Sign b) (not (begins_comment b more)) sign))
+    (or_from (begins_pair b more) (belongs byte.Sign b && not (begins_comment b more)) (no_pair b pair more) (and_left (belongs byte.Sign b) (not (begins_comment b more)) sign))
 
 blank_opens : (b : ℕ) (more : List ℕ) → belongs byte.Blank b ≡ true → kind_at (b ∷ more) ≡ None
 blank_opens b more h = last (or_cases (b == 32 || b == 9 || b == 13) (b == 10) h)
   where
-  P : ℕ → Type 0
-  P b = kind_at (b ∷ more) ≡ None
-  first : (b ≡ 32) ⊎ (b ≡ 9) → kind_at (b ∷ more) ≡ None
-  first (inl e) = rw e (at_blank 32 more refl refl (λ c. refl))
-  first (inr e) = rw e (at_blank 9 more refl refl (λ c. refl))
-  third : ((b == 32 || b == 9) ≡ true) ⊎ ((b == 13) ≡ true) → kind_at (b ∷ more) ≡ None
-  third (inl k) = first (mark_cases b 32 9 k)
-  third (inr k) = rw (eqb-true b 13 k) (at_blank 13 more refl refl (λ c. refl))
-  last : ((b == 32 || b == 9 || b == 13) ≡ true) ⊎ ((b == 10) ≡ true) → kind_at (b ∷ more) ≡ None
-  last (inl k) = third (or_cases (b == 32 || b == 9) (b == 13) k)
-  last (inr k) = rw (eqb-true b 10 k) (at_blank 10 more refl refl (λ c. refl))
+    P : ℕ → Type 0
+    P b = kind_at (b ∷ more) ≡ None
+
+    first : (b ≡ 32) ⊎ (b ≡ 9) → kind_at (b ∷ more) ≡ None
+    first (inl e) = rw e (at_blank 32 more refl refl (λ c. refl))
+    first (inr e) = rw e (at_blank 9 more refl refl (λ c. refl))
+
+    third : ((b == 32 || b == 9) ≡ true) ⊎ ((b == 13) ≡ true) → kind_at (b ∷ more) ≡ None
+    third (inl k) = first (mark_cases b 32 9 k)
+    third (inr k) = rw (eqb-true b 13 k) (at_blank 13 more refl refl (λ c. refl))
+
+    last : ((b == 32 || b == 9 || b == 13) ≡ true) ⊎ ((b == 10) ≡ true) → kind_at (b ∷ more) ≡ None
+    last (inl k) = third (or_cases (b == 32 || b == 9) (b == 13) k)
+    last (inr k) = rw (eqb-true b 10 k) (at_blank 10 more refl refl (λ c. refl))
 
 pub no_kind : (word more : List ℕ) → IsGap word more → kind_at (word ++ more) ≡ None
 no_kind word more (inl blank) = rw blank.spelled (blank_opens blank.blank more blank.separates)

@@ -1,11 +1,10 @@
 -- Texts in quotes: where they close.
-use Rattle.std.proofs.Common.{◌≡◌, ℕ, ◌+◌, Bool, true, false, cond, List, [], ◌∷◌, ◌++◌, length, refl, sym, ap, ◌∙◌, subst, arith, append_assoc, length-append, inl, inr, ◌⊎◌}
-use Rattle.std.specs.Prelude.{if◌then◌else◌}
-use Rattle.std.proofs.lemmas.Bool.{both_ways, eqb-true, ne_eqb, cond-true, cond-false}
+use Rattle.std.proofs.Common.{◌≡◌, ℕ, ◌+◌, Bool, true, false, cond, List, [], ◌∷◌, ◌++◌, length, refl, sym, ap, ◌∙◌, arith, append_assoc, length-append, inl, inr}
+use Rattle.std.proofs.lemmas.Bool.{both_ways, ne_eqb, cond-false}
 use Rattle.std.proofs.lemmas.List.{append-nil}
 use Rattle.ct_lexer.specs.declared.byte.ByteClass.TheVariants as byte
-use Rattle.ct_lexer.specs.Bytes.{belongs, starts, Stops}
-use Rattle.ct_lexer.specs.Tokens.{IsQuoted, IsMarked, IsText, spelling}
+use Rattle.ct_lexer.specs.Bytes.{belongs, Stops}
+use Rattle.ct_lexer.specs.Tokens.{IsQuoted, IsText, spelling}
 use Rattle.ct_lexer.specs.Cutting.{Never}
 use Rattle.ct_lexer.specs.Scanning.{Begins}
 
@@ -64,9 +63,9 @@ spelling-append : (xs ys : List ℕ) → spelling (xs ++ ys) ≡ spelling xs ++ 
 spelling-append [] ys = refl
 spelling-append (b ∷ xs) ys = by (belongs byte.Quote b) (spelling (xs ++ ys)) (spelling xs) (spelling ys) (spelling-append xs ys)
   where
-  by : (quote : Bool) (all front back : List ℕ) → all ≡ front ++ back → cond quote (39 ∷ 39 ∷ all) (b ∷ all) ≡ cond quote (39 ∷ 39 ∷ front) (b ∷ front) ++ back
-  by true all front back e = ap (λ z. 39 ∷ 39 ∷ z) e
-  by false all front back e = ap (λ z. b ∷ z) e
+    by : (quote : Bool) (all front back : List ℕ) → all ≡ front ++ back → cond quote (39 ∷ 39 ∷ all) (b ∷ all) ≡ cond quote (39 ∷ 39 ∷ front) (b ∷ front) ++ back
+    by true all front back e = ap (λ z. 39 ∷ 39 ∷ z) e
+    by false all front back e = ap (λ z. b ∷ z) e
 
 pub opened : (bytes rest : List ℕ) (b : ℕ) → bytes ≡ b ∷ rest → b ≡ 39 → Opened bytes rest 1
 opened bytes rest b e f = record { value = []; cut = rw f at e; long = refl }
@@ -74,9 +73,10 @@ opened bytes rest b e f = record { value = []; cut = rw f at e; long = refl }
 -- one more character
 further : (bytes rest : List ℕ) (size : ℕ) (b : ℕ) (spelled : List ℕ) → spelling (b ∷ []) ≡ spelled → Opened bytes (spelled ++ rest) size → Opened bytes rest (size + length spelled)
 further bytes rest size b spelled e o = record {
-    value = o.value ++ b ∷ [];
-    cut = o.cut ∙ ap (λ z. 39 ∷ z) (sym (append_assoc (spelling o.value) spelled rest) ∙ ap (λ z. z ++ rest) (ap (λ z. spelling o.value ++ z) (sym e) ∙ sym (spelling-append o.value (b ∷ []))));
-    long = rw (spelling-append o.value (b ∷ []), e) (simp length-append (omega (arith, o.long))) }
+  value = o.value ++ b ∷ [];
+  cut = o.cut ∙ ap (λ z. 39 ∷ z) (sym (append_assoc (spelling o.value) spelled rest) ∙ ap (λ z. z ++ rest) (ap (λ z. spelling o.value ++ z) (sym e) ∙ sym (spelling-append o.value (b ∷ []))));
+  long = rw (spelling-append o.value (b ∷ []), e) (simp length-append (omega (arith, o.long)));
+}
 
 pub opened_plain : (bytes rest more : List ℕ) (size b : ℕ) → Opened bytes rest size → rest ≡ b ∷ more → (b ≡ 39 → ⊥) → Opened bytes more (size + 1)
 opened_plain bytes rest more size b o e f =
@@ -88,10 +88,12 @@ opened_pair bytes rest more behind size b o e f g = further bytes behind size 39
 
 pub closed : (bytes rest more : List ℕ) (size b : ℕ) → Opened bytes rest size → rest ≡ b ∷ more → b ≡ 39 → Stops byte.Quote more → Begins IsQuoted bytes (size + 1)
 closed bytes rest more size b o e f stops = record {
-    word = 39 ∷ (spelling o.value ++ 39 ∷ []); more = more;
-    cut = o.cut ∙ ap (λ z. 39 ∷ z) (ap (λ z. spelling o.value ++ z) (e ∙ ap (λ b. b ∷ more) f) ∙ sym (append_assoc (spelling o.value) (39 ∷ []) more));
-    long = simp length-append (omega (arith, o.long));
-    is = record { value = o.value; spelled = refl; closed = stops } }
+  word = 39 ∷ (spelling o.value ++ 39 ∷ []);
+  more = more;
+  cut = o.cut ∙ ap (λ z. 39 ∷ z) (ap (λ z. spelling o.value ++ z) (e ∙ ap (λ b. b ∷ more) f) ∙ sym (append_assoc (spelling o.value) (39 ∷ []) more));
+  long = simp length-append (omega (arith, o.long));
+  is = record { value = o.value; spelled = refl; closed = stops };
+}
 
 pub not_closed : (bytes rest : List ℕ) (size : ℕ) → Opened bytes rest size → rest ≡ [] → Never IsQuoted bytes
 not_closed bytes rest size o e word more f text =
@@ -109,7 +111,7 @@ one_quoted word more other others e text twin =
     let f : (39 ∷ (spelling text.value ++ 39 ∷ [])) ++ more ≡ (39 ∷ (spelling twin.value ++ 39 ∷ [])) ++ others = rw (text.spelled, twin.spelled) at e in
     let inside : (spelling text.value ++ 39 ∷ []) ++ more ≡ (spelling twin.value ++ 39 ∷ []) ++ others = cc in
     let all : spelling text.value ++ 39 ∷ more ≡ spelling twin.value ++ 39 ∷ others =
-        sym (append_assoc (spelling text.value) (39 ∷ []) more) ∙ inside ∙ append_assoc (spelling twin.value) (39 ∷ []) others in
+    sym (append_assoc (spelling text.value) (39 ∷ []) more) ∙ inside ∙ append_assoc (spelling twin.value) (39 ∷ []) others in
     let same : length (spelling text.value) ≡ length (spelling twin.value) = one_close more others (written text.value) (written twin.value) text.closed twin.closed all in
     rw (text.spelled, twin.spelled) (simp length-append (omega (arith, same)))
 
@@ -117,8 +119,12 @@ one_quoted word more other others e text twin =
 
 pub text_begins : (bytes tail : List ℕ) (b n : ℕ) → bytes ≡ b ∷ tail → belongs byte.TextMark b ≡ true → Begins IsQuoted tail n → Begins IsText bytes (1 + n)
 text_begins bytes tail b n e marks text = record {
-    word = b ∷ text.word; more = text.more; cut = e ∙ ap (λ z. b ∷ z) text.cut; long = omega (arith, text.long);
-    is = inr (record { mark = b; quoted = text.word; spelled = refl; marks = marks; text = text.is }) }
+  word = b ∷ text.word;
+  more = text.more;
+  cut = e ∙ ap (λ z. b ∷ z) text.cut;
+  long = omega (arith, text.long);
+  is = inr (record { mark = b; quoted = text.word; spelled = refl; marks = marks; text = text.is });
+}
 
 pub plain_begins : (bytes : List ℕ) (n : ℕ) → Begins IsQuoted bytes n → Begins IsText bytes n
 plain_begins bytes n text = record { word = text.word; more = text.more; cut = text.cut; long = text.long; is = inl text.is }

@@ -1,10 +1,10 @@
 -- The longest run of bytes of one class at the front of some bytes.
-use Rattle.std.proofs.Common.{◌≡◌, ℕ, suc, ◌+◌, Bool, true, false, cond, ◌&&◌, List, [], ◌∷◌, ◌++◌, length, refl, sym, ap, ◌∙◌, subst, arith, inl, inr}
-use Rattle.std.specs.List.{prefix_len, list_all, AllPass}
-use Rattle.std.proofs.lemmas.Bool.{cond-true, cond-false, both_ways}
+use Rattle.std.proofs.Common.{◌≡◌, ℕ, ◌+◌, Bool, true, false, cond, List, [], ◌∷◌, ◌++◌, length, refl, ap, ◌∙◌, arith}
+use Rattle.std.specs.List.{prefix_len}
+use Rattle.std.proofs.lemmas.Bool.{cond-true, cond-false}
 use Rattle.std.proofs.lemmas.List.Elements.{All-nil, All-cons, All-head, All-tail}
 use Rattle.ct_lexer.specs.declared.byte.ByteClass.{ByteClass}
-use Rattle.ct_lexer.specs.Bytes.{belongs, starts, AllOf, Stops}
+use Rattle.ct_lexer.specs.Bytes.{belongs, AllOf, Stops}
 use Rattle.ct_lexer.specs.Scanning.{Begins}
 
 -- bytes of the class, and no more of them behind
@@ -25,16 +25,21 @@ run_size class (b ∷ word) more each stops =
 -- the longest run at the front
 longer : (class : ByteClass) (b : ℕ) (bytes : List ℕ) → belongs class b ≡ true → Begins (IsRun class) bytes (prefix_len (belongs class) bytes) → Begins (IsRun class) (b ∷ bytes) (1 + prefix_len (belongs class) bytes)
 longer class b bytes first run = record {
-    word = b ∷ run.word;
-    more = run.more;
-    cut = ap (λ z. b ∷ z) run.cut;
-    long = omega (arith, run.long);
-    is = record { bytes = let P : ℕ → Type 0 = λ b. belongs class b ≡ true in All-cons P b run.word first run.is.bytes; whole = run.is.whole } }
+  word = b ∷ run.word;
+  more = run.more;
+  cut = ap (λ z. b ∷ z) run.cut;
+  long = omega (arith, run.long);
+  is = record { bytes = let P : ℕ → Type 0 = λ b. belongs class b ≡ true in All-cons P b run.word first run.is.bytes; whole = run.is.whole };
+}
 
 none : (class : ByteClass) (more : List ℕ) → Stops class more → Begins (IsRun class) more 0
 none class more stops = record {
-    word = []; more = more; cut = refl; long = refl;
-    is = record { bytes = let P : ℕ → Type 0 = λ b. belongs class b ≡ true in All-nil P; whole = stops } }
+  word = [];
+  more = more;
+  cut = refl;
+  long = refl;
+  is = record { bytes = let P : ℕ → Type 0 = λ b. belongs class b ≡ true in All-nil P; whole = stops };
+}
 
 one_on : (class : ByteClass) (b : ℕ) (bytes : List ℕ) (passes : Bool) → belongs class b ≡ passes → Begins (IsRun class) bytes (prefix_len (belongs class) bytes)
     → Begins (IsRun class) (b ∷ bytes) (cond passes (1 + prefix_len (belongs class) bytes) 0)

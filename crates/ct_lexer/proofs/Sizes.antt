@@ -1,14 +1,13 @@
 -- At one place there is one token or gap at most, of one length.
-use Rattle.std.proofs.Common.{◌≡◌, ℕ, ◌+◌, ◌<◌, ◌≤◌, ◌⊎◌, Bool, true, false, List, [], ◌∷◌, ◌++◌, length, drop, Some, None, refl, sym, ap, ◌∙◌, subst, arith, inl, inr, length-append}
+use Rattle.std.proofs.Common.{◌≡◌, ℕ, ◌<◌, true, false, List, [], ◌∷◌, ◌++◌, length, drop, Some, None, refl, sym, ap, ◌∙◌, arith, inl, inr}
 use Rattle.std.proofs.lemmas.Bool.{both_ways}
 use Rattle.std.proofs.lemmas.List.{drop_at}
-use Rattle.std.specs.List.{prefix_len}
 use Rattle.ct_lexer.specs.declared.byte.ByteClass.TheVariants as byte
 use Rattle.ct_lexer.specs.declared.token.TokenKind.{TokenKind}
 use Rattle.ct_lexer.specs.declared.token.TokenKind.TheVariants as kind
-use Rattle.ct_lexer.specs.Bytes.{belongs, starts}
+use Rattle.ct_lexer.specs.Bytes.{belongs}
 use Rattle.ct_lexer.specs.Scanning.{kind_at}
-use Rattle.ct_lexer.specs.Tokens.{IsBareName, IsBracketed, IsVariable, IsNumber, IsText, IsQuoted, IsMarked, IsBytes, IsSign, IsToken, IsGap, IsBlank, IsComment, begins_pair}
+use Rattle.ct_lexer.specs.Tokens.{IsBareName, IsBracketed, IsVariable, IsNumber, IsText, IsQuoted, IsMarked, IsBytes, IsToken, IsGap, IsBlank, IsComment, begins_pair}
 use Rattle.ct_lexer.proofs.Names.{name_front, variable_front, number_size, bracket_front}
 use Rattle.ct_lexer.proofs.Quotes.{one_quoted, quoted_first}
 use Rattle.ct_lexer.proofs.Marks.{bytes_front, bytes_two, SignFront, sign_front, comment_front, blank_front}

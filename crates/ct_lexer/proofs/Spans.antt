@@ -1,12 +1,12 @@
 -- What a cut text says of the spans of its tokens.
-use Rattle.std.proofs.Common.{◌≡◌, ℕ, ◌+◌, ◌-◌, ◌<◌, ◌≤◌, List, [], ◌∷◌, ◌++◌, length, take, drop, get_or, refl, sym, ap, ◌∙◌, subst, arith, length-append, length-drop}
+use Rattle.std.proofs.Common.{◌≡◌, ℕ, ◌+◌, ◌-◌, ◌<◌, ◌≤◌, List, [], ◌∷◌, ◌++◌, length, drop, get_or, refl, sym, ap, ◌∙◌, subst, arith}
 use Rattle.std.specs.List.{All}
 use Rattle.std.specs.Prelude.{slice_range}
-use Rattle.std.proofs.lemmas.List.{drop_at, drop-drop, take_at, get_or-drop, get_or_append_left}
+use Rattle.std.proofs.lemmas.List.{take_at, get_or-drop, get_or_append_left}
 use Rattle.std.proofs.lemmas.List.Elements.{All-nil, All-cons}
 use Rattle.ct_lexer.specs.declared.token.Token.{Token}
 use Rattle.ct_lexer.specs.declared.token.TokenKind.{TokenKind}
-use Rattle.ct_lexer.specs.Tokens.{IsToken, IsGap}
+use Rattle.ct_lexer.specs.Tokens.{IsToken}
 use Rattle.ct_lexer.specs.Cutting.{Cuts, here, gap, token, IsCut}
 use Rattle.ct_lexer.specs.Spans.{Rises, Stands, Fits, AllFit}
 use Rattle.ct_lexer.proofs.Sizes.{some_token}
@@ -57,14 +57,15 @@ one_fits text at kind word more e h t =
     let next = behind_word text at (length word) word more (sym e) refl h in
     let ends = ascii_ends kind word more t in
     record {
-        rises = omega arith;
-        ends = next.1;
-        first = let place : at ≡ at + 0 = omega arith in rw place (subst (λ b. b < 128) (byte_at text at word more e 0 some) ends.first);
-        last = let place : at + length word - 1 ≡ at + (length word - 1) = omega arith in
-            rw place (subst (λ b. b < 128) (byte_at text at word more e (length word - 1) (omega arith)) ends.last) }
+      rises = omega arith;
+      ends = next.1;
+      first = let place : at ≡ at + 0 = omega arith in rw place (subst (λ b. b < 128) (byte_at text at word more e 0 some) ends.first);
+      last = let place : at + length word - 1 ≡ at + (length word - 1) = omega arith in
+          rw place (subst (λ b. b < 128) (byte_at text at word more e (length word - 1) (omega arith)) ends.last);
+    }
   where
-  byte_at : (text : List ℕ) (at : ℕ) (word more : List ℕ) → word ++ more ≡ drop at text → (k : ℕ) → k < length word → get_or word k 0 ≡ get_or text (at + k) 0
-  byte_at text at word more e k lt = sym (get_or_append_left word more 0 k lt) ∙ ap (λ z. get_or z k 0) e ∙ get_or-drop at text k 0
+    byte_at : (text : List ℕ) (at : ℕ) (word more : List ℕ) → word ++ more ≡ drop at text → (k : ℕ) → k < length word → get_or word k 0 ≡ get_or text (at + k) 0
+    byte_at text at word more e k lt = sym (get_or_append_left word more 0 k lt) ∙ ap (λ z. get_or z k 0) e ∙ get_or-drop at text k 0
 
 cut_fits : {at end : ℕ} {bytes : List ℕ} {tokens : List Token} {rest : List ℕ} (text : List ℕ) → Cuts at bytes tokens end rest → bytes ≡ drop at text → at ≤ length text → AllFit text tokens
 cut_fits text here e h = tt

@@ -1,6 +1,6 @@
 -- The forms of tokens, and of what separates them: that `word`, with `more` behind it, is one. What follows is looked
 -- at since a word is as long as it can be.
-use Rattle.std.specs.Prelude.{◌≡◌, ℕ, ◌%◌, ◌<◌, ◌≤◌, ◌⊎◌, Bool, true, false, not, ◌&&◌, ◌||◌, ◌==◌, if◌then◌else◌, List, [], ◌∷◌, ◌++◌, length, Option, Some, None}
+use Rattle.std.specs.Prelude.{◌≡◌, ℕ, ◌%◌, ◌<◌, ◌≤◌, ◌⊎◌, Bool, true, false, ◌&&◌, ◌||◌, ◌==◌, if◌then◌else◌, List, [], ◌∷◌, ◌++◌, length}
 use Rattle.ct_lexer.specs.declared.byte.ByteClass.TheVariants as byte
 use Rattle.ct_lexer.specs.declared.token.TokenKind.{TokenKind}
 use Rattle.ct_lexer.specs.declared.token.TokenKind.TheVariants as kind

@@ -7,5 +7,4 @@ pub fn one_cutting()
     ensures tokens { (text : List ℕ) (tokens others : List Token) → IsCut text tokens → IsCut text others → tokens ≡ others }
     ensures apart { (text : List ℕ) (tokens : List Token) (at : ℕ) → IsCut text tokens → IsStuck text at → ⊥ }
     ensures place { (text : List ℕ) (at other : ℕ) → IsStuck text at → IsStuck text other → at ≡ other }
-{
-}
+{}

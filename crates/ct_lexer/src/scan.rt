@@ -10,7 +10,7 @@ ghost use Rattle.ct_lexer.specs.Scanning.{Begins};
 use crate::TokenKind;
 use crate::byte::ByteClass;
 
-/// The longest name, bare or in its brackets' inside, in bytes.
+/// The longest name, in bytes: a bare one, or what stands in the brackets of a bracketed one.
 const MAX_NAME: usize = 128;
 
 /// The first byte, and the bytes behind it.
@@ -33,6 +33,7 @@ fn name_len(bytes: &[u8]) -> Option<usize>
     }
 }
 
+/// How long the variable at the front is: `@` and a bare name.
 #[tactic(auto, using(crate::proofs::Names::variable_begins))]
 fn variable_len(bytes: &[u8]) -> Option<usize>
     ensures { MatchOption result (Never IsVariable bytes.now) (Begins IsVariable bytes.now) }
@@ -45,6 +46,7 @@ fn variable_len(bytes: &[u8]) -> Option<usize>
     Some(1 + len)
 }
 
+/// How long the number at the front is.
 fn number_len(bytes: &[u8]) -> Option<usize>
     ensures { MatchOption result (Never IsNumber bytes.now) (Begins IsNumber bytes.now) }
 {
@@ -52,6 +54,7 @@ fn number_len(bytes: &[u8]) -> Option<usize>
     if len > 0 { Some(len) } else { None }
 }
 
+/// How long the name in brackets at the front is.
 #[tactic(auto, using(crate::proofs::Names::bracket_begins))]
 fn bracketed_len(bytes: &[u8]) -> Option<usize>
     ensures { MatchOption result (Never IsBracketed bytes.now) (Begins IsBracketed bytes.now) }
@@ -75,8 +78,7 @@ fn past_quote(bytes: &[u8]) -> Option<&[u8]>
     if first == b'\'' { Some(behind) } else { None }
 }
 
-/// How long the part from the quote at the front to the one that closes it is.
-#[tactic(auto, using(crate::proofs::Quotes::opened_plain, crate::proofs::Quotes::opened_pair, crate::proofs::Quotes::closed, crate::proofs::Quotes::not_closed))]
+/// How long the part from the quote at the front to the one that closes it is. Two quotes in a row are one inside.
 fn quoted_len(bytes: &[u8]) -> Option<usize>
     ensures { MatchOption result (Never IsQuoted bytes.now) (Begins IsQuoted bytes.now) }
 {
@@ -96,6 +98,7 @@ fn quoted_len(bytes: &[u8]) -> Option<usize>
     None
 }
 
+/// How long the text at the front is, with its mark.
 #[tactic(auto, using(crate::proofs::Quotes::text_begins, crate::proofs::Quotes::plain_begins))]
 fn text_len(bytes: &[u8]) -> Option<usize>
     ensures { MatchOption result (Never IsText bytes.now) (Begins IsText bytes.now) }
@@ -109,7 +112,7 @@ fn text_len(bytes: &[u8]) -> Option<usize>
     }
 }
 
-#[tactic(auto, using(crate::proofs::Marks::bytes_begins, crate::proofs::Marks::bytes_front))]
+/// How long the bytes at the front are: `0x` and pairs of hexadecimal digits.
 fn bytes_len(bytes: &[u8]) -> Option<usize>
     ensures { MatchOption result (Never IsBytes bytes.now) (Begins IsBytes bytes.now) }
 {
@@ -124,19 +127,18 @@ fn bytes_len(bytes: &[u8]) -> Option<usize>
     }
 }
 
+/// Whether the first byte and the next one are a sign of two.
 fn begins_pair(first: u8, more: &[u8]) -> bool
     ensures { result ≡ forms.begins_pair first more.now }
 {
-    match more.first() {
-        Some(next) => match first {
-            b'<' => *next == b'>' || *next == b'=',
-            b'>' | b'!' => *next == b'=',
-            _ => false,
-        },
-        None => false,
+    match (first, more.first()) {
+        (b'<', Some(next)) => *next == b'>' || *next == b'=',
+        (b'>' | b'!', Some(next)) => *next == b'=',
+        _ => false,
     }
 }
 
+/// Whether the first byte and the next one begin a comment.
 fn begins_comment(first: u8, more: &[u8]) -> bool
     ensures { result ≡ forms.begins_comment first more.now }
 {
@@ -146,6 +148,7 @@ fn begins_comment(first: u8, more: &[u8]) -> bool
     }
 }
 
+/// How long the sign at the front is.
 #[tactic(auto, using(crate::proofs::Marks::pair_begins, crate::proofs::Marks::single_begins))]
 fn sign_len(bytes: &[u8]) -> Option<usize>
     ensures { MatchOption result (Never IsSign bytes.now) (Begins IsSign bytes.now) }
@@ -160,13 +163,14 @@ fn sign_len(bytes: &[u8]) -> Option<usize>
     }
 }
 
-/// The only kind that a token at the front may have.
+/// The only kind that a token at the front may have, by its first two bytes.
 fn kind_at(bytes: &[u8]) -> Option<TokenKind>
     ensures { result ≡ scanning.kind_at bytes.now }
 {
     let (first, more) = split(bytes)?;
-    let quoted = ByteClass::Quote.starts(more);
-    if ByteClass::Quote.has(first) || ByteClass::TextMark.has(first) && quoted {
+    if ByteClass::Quote.has(first)
+        || ByteClass::TextMark.has(first) && ByteClass::Quote.starts(more)
+    {
         Some(TokenKind::Text)
     } else if first == b'0' && ByteClass::BytesMark.starts(more) {
         Some(TokenKind::Bytes)
@@ -178,13 +182,16 @@ fn kind_at(bytes: &[u8]) -> Option<TokenKind>
         Some(TokenKind::Variable)
     } else if first == b'[' {
         Some(TokenKind::Bracketed)
-    } else if begins_pair(first, more) || ByteClass::Sign.has(first) && !begins_comment(first, more) {
+    } else if begins_pair(first, more)
+        || ByteClass::Sign.has(first) && !begins_comment(first, more)
+    {
         Some(TokenKind::Sign)
     } else {
         None
     }
 }
 
+/// How long the token of this kind at the front is, where its first bytes tell of this kind.
 fn token_len(kind: TokenKind, bytes: &[u8]) -> Option<usize>
     requires { scanning.kind_at bytes.now ≡ Some kind }
     ensures { MatchOption result (Never (IsToken kind) bytes.now) (Begins (IsToken kind) bytes.now) }
@@ -200,21 +207,17 @@ fn token_len(kind: TokenKind, bytes: &[u8]) -> Option<usize>
     }
 }
 
-/// The kind and the length of the token at the front.
+/// The kind and the length of the token at the front. Each of its bytes is looked at a few times at most.
 pub fn token_at(bytes: &[u8]) -> Option<(TokenKind, usize)>
-    ensures { MatchOption result ((kind : TokenKind) → Never (IsToken kind) bytes.now) (λ found. Begins (IsToken found.0) bytes.now found.1) }
+    ensures { MatchOption result ((kind : TokenKind) → Never (IsToken kind) bytes.now)
+        (λ found. Begins (IsToken found.0) bytes.now found.1) }
 {
-    let Some(kind) = kind_at(bytes) else {
-        return None;
-    };
-    let Some(len) = token_len(kind, bytes) else {
-        return None;
-    };
+    let kind = kind_at(bytes)?;
+    let len = token_len(kind, bytes)?;
     Some((kind, len))
 }
 
 /// How long the blank or the comment at the front is.
-#[tactic(auto, using(crate::proofs::Marks::blank_begins, crate::proofs::Marks::comment_begins))]
 pub fn gap_len(bytes: &[u8]) -> Option<usize>
     ensures { MatchOption result (Never IsGap bytes.now) (Begins IsGap bytes.now) }
 {

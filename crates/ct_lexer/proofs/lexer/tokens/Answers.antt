@@ -1,4 +1,3 @@
-use Rattle.std.proofs.Common.{arith}
 use Rattle.std.proofs.lemmas.List.{take_rest}
 use Rattle.ct_lexer.specs.Cutting.{IsCut}
 use Rattle.ct_lexer.proofs.Cutting.{cut_none, past_gap, past_token, whole}
@@ -15,7 +14,7 @@ loop-at-preserved-in-Some c =
 pub loop-at-preserved : goal.loop-at-preserved
 loop-at-preserved c =
     past_token c.as_bytes-bytes.result.now _ c.loop-at.found c.push.new.self c.loop-at.at c.in-Some-token_at.len c.in-Some-token_at.kind
-        c.loop-at.invariant (take_rest c.as_bytes-bytes.result.now c.loop-at.at) c.in-Some-token_at.ensures c.in_ok-push.ensures.ok
+    c.loop-at.invariant (take_rest c.as_bytes-bytes.result.now c.loop-at.at) c.in-Some-token_at.ensures c.in_ok-push.ensures.ok
 
 cut : (c : goal.After-loop-at) → IsCut c.args.text.now c.loop-at.found
 cut c = rw (← c.as_bytes-bytes.ensures.value) (whole c.as_bytes-bytes.result.now c.loop-at.found c.loop-at.at c.loop-at.invariant c.loop-at-test.false)

@@ -5,8 +5,8 @@ use Rattle.ct_lexer.proofs.Marks.{bytes_front, bytes_begins}
 pub returns-then-digits-eq0 : goal.returns-then-digits-eq0
 returns-then-digits-eq0 c =
     rw c.run-digits.ensures.run
-        (bytes_begins c.args.bytes.now c.in_ok-zero.marked.now c.in_ok-mark.more.now c.in_ok-zero.zero c.in_ok-mark.mark c.in_ok-zero.ensures c.in_ok-mark.ensures c.if-zero-eq48.true (cc)
-            (rw c.run-digits.ensures.run at c.if-digits-eq0.true))
+    (bytes_begins c.args.bytes.now c.in_ok-zero.marked.now c.in_ok-mark.more.now c.in_ok-zero.zero c.in_ok-mark.mark c.in_ok-zero.ensures c.in_ok-mark.ensures c.if-zero-eq48.true (cc)
+    (rw c.run-digits.ensures.run at c.if-digits-eq0.true))
 
 pub returns-else-zero-eq48 : goal.returns-else-zero-eq48
 returns-else-zero-eq48 c word more e bytes =

@@ -1,6 +1,4 @@
-use Rattle.std.proofs.Common.{◌≡◌, true, arith}
-use Rattle.ct_lexer.specs.Bytes.{starts}
-use Rattle.ct_lexer.specs.declared.byte.ByteClass.TheVariants.{Letter}
+use Rattle.std.proofs.Common.{arith}
 use Rattle.ct_lexer.proofs.scan.name_len.Goals as goal
 use Rattle.ct_lexer.proofs.Names.{name_front, name_begins}
 
