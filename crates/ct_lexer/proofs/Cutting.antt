@@ -67,10 +67,10 @@ whole text tokens at c h =
 
 pub stuck : (text rest : List ℕ) (tokens : List Token) (at : ℕ) → CutTo text tokens at → rest ≡ drop at text → at < length text → Never IsGap rest → ((kind : TokenKind) → Never (IsToken kind) rest) → IsStuck text at
 stuck text rest tokens at c e h no_gap no_token = record {
+  within = h;
   tokens = tokens;
   rest = rest;
   cut = rw e c.cut;
-  some = rw e (omega (arith, length-drop at text));
   no_gap = no_gap;
   no_token = no_token;
 }
@@ -124,9 +124,8 @@ one_tokens text tokens others c d = (same_cut c d refl refl over_end over_end).t
 
 pub cut_or_stuck : (text : List ℕ) (tokens : List Token) (at : ℕ) → IsCut text tokens → IsStuck text at → ⊥
 cut_or_stuck text tokens at c s =
-    let same : [] ≡ s.rest = (same_cut c s.cut refl refl over_end (stuck_over text at s)).rest_same in
-    let some : 0 < length s.rest = s.some in
-    omega (arith, ap length same)
+    let same : length text ≡ at = (same_cut c s.cut refl refl over_end (stuck_over text at s)).end_same in
+    omega (arith, same, s.within)
 
 pub one_place : (text : List ℕ) (at other : ℕ) → IsStuck text at → IsStuck text other → at ≡ other
 one_place text at other s t = (same_cut s.cut t.cut refl refl (stuck_over text at s) (stuck_over text other t)).end_same

@@ -1,4 +1,4 @@
--- The bytes that the forms of tokens tell apart. All but those of comments are ASCII.
+-- The classes of bytes that the forms of tokens tell apart. All but that of comments are ASCII.
 use Rattle.std.specs.Prelude.{◌≡◌, ℕ, Bool, false, not, ◌&&◌, ◌||◌, ◌==◌, nat_le, List, [], ◌∷◌, codes}
 use Rattle.std.specs.List.{list_any, AllPass}
 use Rattle.std.specs.Char.{is_ascii_digit, is_ascii_hexdigit, is_ascii_alphabetic, is_ascii_alphanumeric}
@@ -29,6 +29,6 @@ starts class (byte ∷ bytes) = belongs class byte
 abbrev pub AllOf : ByteClass → List ℕ → Type 0
 AllOf class bytes = AllPass (belongs class) bytes
 
--- the class goes on no further: another byte follows, or none
+-- none of the class follows: another byte does, or the text ends
 abbrev pub Stops : ByteClass → List ℕ → Type 0
 Stops class more = starts class more ≡ false

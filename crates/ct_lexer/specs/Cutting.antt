@@ -24,15 +24,16 @@ IsCut text tokens = Cuts 0 text tokens (length text) []
 abbrev pub Never : (List ℕ → List ℕ → Type 0) → List ℕ → Type 0
 Never Is bytes = (word more : List ℕ) → bytes ≡ word ++ more → Is word more → ⊥
 
--- up to the place `at` the text is cut, more follows, and neither a gap nor a token begins there
+-- the text is cut up to the place `at`, which is before its end, and neither a gap nor a token begins there
 pub record IsStuck (text : List ℕ) (at : ℕ) : Type 0 where
+  pub within : at < length text
   pub tokens : List Token
   pub rest : List ℕ
   pub cut : Cuts 0 text tokens at rest
-  pub some : 0 < length rest
   pub no_gap : Never IsGap rest
   pub no_token : (kind : TokenKind) → Never (IsToken kind) rest
 
+-- a fault is the place where the text is stuck; want of memory says nothing of the text
 abbrev pub IsWrong : List ℕ → LexError → Type 0
 IsWrong text (errors.Syntax at) = IsStuck text at
 IsWrong text errors.Memory = Unit {0}

@@ -18,7 +18,7 @@ pub record Begins (Is : List ℕ → List ℕ → Type 0) (bytes : List ℕ) (si
 abbrev pub begins_sign : ℕ → List ℕ → Bool
 begins_sign b more = begins_pair b more || (belongs byte.Sign b && not (begins_comment b more))
 
--- the only kind that a token at the front of these bytes may have
+-- The first two bytes tell the only kind that a token at the front of these bytes may have.
 abbrev pub kind_at : List ℕ → Option TokenKind
 kind_at [] = None
 kind_at (b ∷ more) =

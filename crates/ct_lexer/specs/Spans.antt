@@ -3,12 +3,12 @@ use Rattle.std.specs.Prelude.{ℕ, ◌-◌, ◌<◌, ◌≤◌, List, [], ◌∷
 use Rattle.ct_lexer.specs.declared.token.Token.{Token}
 use Rattle.ct_lexer.specs.Tokens.{IsToken}
 
--- the spans rise: each begins at the end of the one before it or later, has a byte at least, and ends by the place `end`
+-- the spans rise: each begins at the end of the one before it or later and has a byte at least, and all end by `end`
 abbrev pub Rises : ℕ → List Token → ℕ → Type 0
 Rises from [] end = from ≤ end
 Rises from (token ∷ tokens) end = (from ≤ token.from) × (token.from < token.to) × Rises token.to tokens end
 
--- the bytes of the span are a token of its kind, with what follows them
+-- the bytes of the span are a token of its kind, with what stands behind them
 abbrev pub Stands : List ℕ → Token → Type 0
 Stands text token = IsToken token.kind (slice_range text token.from token.to) (drop token.to text)
 

@@ -2,13 +2,16 @@ ghost use Rattle.std.specs.Prelude.{◌≡◌, ◌≤◌, length};
 ghost use Rattle.std.specs.List.{prefix_len};
 ghost use Rattle.ct_lexer.specs.Bytes.{belongs, starts};
 
-/// The bytes that the forms of tokens tell apart.
+/// The classes of bytes that the forms of tokens tell apart.
 #[derive(Clone, Copy)]
 pub enum ByteClass {
+    /// What separates tokens.
     Blank,
-    /// Any byte but a line feed.
+    /// What a comment holds: any byte but a line feed.
     Comment,
+    /// What a bare name begins with.
     Letter,
+    /// What a bare name holds.
     Name,
     Digit,
     HexDigit,
@@ -20,10 +23,12 @@ pub enum ByteClass {
     TextMark,
     /// The letter behind the `0` of bytes.
     BytesMark,
+    /// The signs of one byte.
     Sign,
 }
 
 impl ByteClass {
+    /// Whether a byte is of this class.
     pub fn has(self, byte: u8) -> bool
         ensures { result ≡ belongs self byte }
     {

@@ -7,7 +7,16 @@ use crate::{LexError, Token};
 use ct_types::List;
 use std::alloc::Global;
 
-/// The tokens of a text, in order, without the blanks and comments between them.
+/// The tokens of a text, in order, without the blanks and comments between them. Spans are 32 bits wide, so the text is
+/// shorter than 2^32 bytes.
+///
+/// The forms of tokens follow T-SQL's (its reference's pages on identifiers, constants, operators and comments), except
+/// for their limits and for `/* .. */`, which no comment begins: these are this project's own.
+///
+/// # Errors
+///
+/// `Syntax` with the first place where neither a token nor something that separates tokens begins; `Memory` for want of
+/// memory.
 pub fn tokens(alloc: Global, text: &str) -> Result<List<Token>, LexError>
     requires { length text.now < 2 ^ 32 }
     ensures cut { IfOk result (IsCut text.now) }

@@ -21,7 +21,7 @@ pub enum TokenKind {
     Sign,
 }
 
-/// A token, and where it stands in its text.
+/// A token, and where it stands in its text: the bytes from `from` up to `to`.
 #[derive(Clone, Copy, Debug, PartialEq, Eq)]
 pub struct Token {
     pub kind: TokenKind,
@@ -36,7 +36,7 @@ pub struct Token {
 pub enum LexError {
     /// At this offset no token begins, and nothing that separates tokens. It is the first such place.
     Syntax(u32),
-    /// Want of memory.
+    /// Want of memory, at any point.
     Memory,
 }
 
