@@ -1,0 +1,5 @@
+pub mod Bytes
+pub mod Cutting
+pub mod Scanning
+pub mod Spans
+pub mod Tokens
