@@ -1,5 +1,4 @@
 ghost use Rattle.std.specs.Prelude.{◌≡◌, ◌++◌, OnOk, codes, string_bytes};
-ghost use Rattle.std.specs.Fmt.{decimal};
 ghost use Rattle.ct_machine.specs.Transcript.{named, counted, key_text, refusal_text};
 
 use crate::value::{add_key, add_words};
@@ -16,28 +15,11 @@ fn add_named(out: &mut String, words: &str, name: &Text) -> Result<(), AllocErro
 }
 
 /// Adds a line of words and a number.
-pub(crate) fn add_counted(out: &mut String, words: &str, count: u64) -> Result<(), AllocError>
+pub(crate) fn add_count(out: &mut String, words: &str, count: u64) -> Result<(), AllocError>
     ensures { OnOk result (string_bytes out.new ≡ string_bytes out.old ++ counted words.now count) }
 {
     out.push_str(words)?;
     write!(out, "{count}\n")
-}
-
-/// Adds a line of words and two numbers.
-pub(crate) fn add_pair(
-    out: &mut String,
-    before: &str,
-    first: u64,
-    between: &str,
-    second: u64,
-) -> Result<(), AllocError>
-    ensures { OnOk result (string_bytes out.new ≡ string_bytes out.old
-        ++ (before.now ++ decimal first ++ between.now ++ decimal second ++ codes "\n")) }
-{
-    out.push_str(before)?;
-    write!(out, "{first}")?;
-    out.push_str(between)?;
-    write!(out, "{second}\n")
 }
 
 /// Adds words, a table's name and a key of it, with no end of line.
@@ -75,13 +57,27 @@ fn add_conflict(out: &mut String, table: &Text, xdes: u64) -> Result<(), AllocEr
     write!(out, " by {xdes}\n")
 }
 
+#[tactic(auto, unfolding(ct_machine::specs::Transcript::refusal_text))]
+fn add_log_full(out: &mut String, used: u64, needed: u64) -> Result<(), AllocError>
+    ensures { OnOk result (string_bytes out.new ≡ string_bytes out.old ++ refusal_text (Refusal.LogFull used needed)) }
+{
+    write!(out, "Msg 9002 used {used} needed {needed}\n")
+}
+
+#[tactic(auto, unfolding(ct_machine::specs::Transcript::refusal_text))]
+fn add_count_clash(out: &mut String, wanted: u32, got: u32) -> Result<(), AllocError>
+    ensures { OnOk result (string_bytes out.new ≡ string_bytes out.old ++ refusal_text (Refusal.CountClash wanted got)) }
+{
+    write!(out, "Refused CountClash {wanted} {got}\n")
+}
+
 /// Adds the line of a refusal.
 #[tactic(auto, unfolding(ct_machine::specs::Transcript::refusal_text))]
 pub(crate) fn add_refusal(out: &mut String, refusal: &Refusal) -> Result<(), AllocError>
     ensures { OnOk result (string_bytes out.new ≡ string_bytes out.old ++ refusal_text refusal.now) }
 {
     match refusal {
-        Refusal::Syntax { at } => add_counted(out, "Msg 102 at ", u64::from(*at)),
+        Refusal::Syntax { at } => add_count(out, "Msg 102 at ", u64::from(*at)),
         Refusal::NoColumn { name } => add_named(out, "Msg 207 ", name),
         Refusal::NoObject { name } => add_named(out, "Msg 208 ", name),
         Refusal::NotNull { column } => add_named(out, "Msg 515 ", column),
@@ -94,13 +90,7 @@ pub(crate) fn add_refusal(out: &mut String, refusal: &Refusal) -> Result<(), All
         Refusal::Conflict { table, xdes } => add_conflict(out, table, *xdes),
         Refusal::Overflow => add_words(out, "Msg 8115\n"),
         Refusal::TooLong { column } => add_named(out, "Msg 8152 ", column),
-        Refusal::LogFull { used, needed } => add_pair(
-            out,
-            "Msg 9002 used ",
-            *used,
-            " needed ",
-            *needed,
-        ),
+        Refusal::LogFull { used, needed } => add_log_full(out, *used, *needed),
         Refusal::NotTracked { name } => add_named(out, "Refused NotTracked ", name),
         Refusal::AlreadyTracked { name } => add_named(out, "Refused AlreadyTracked ", name),
         Refusal::TrackingOff => add_words(out, "Refused TrackingOff\n"),
@@ -111,30 +101,24 @@ pub(crate) fn add_refusal(out: &mut String, refusal: &Refusal) -> Result<(), All
         Refusal::BadRetention => add_words(out, "Refused BadRetention\n"),
         Refusal::DiskFault => add_words(out, "Refused DiskFault\n"),
         Refusal::Memory => add_words(out, "Refused Memory\n"),
-        Refusal::TablesTracked { count } => add_counted(
+        Refusal::TablesTracked { count } => add_count(
             out,
             "Refused TablesTracked ",
             u64::from(*count),
         ),
-        Refusal::CheckpointBusy { owner } => add_counted(
+        Refusal::CheckpointBusy { owner } => add_count(
             out,
             "Refused CheckpointBusy ",
             u64::from(*owner),
         ),
-        Refusal::BadTable { rule } => add_counted(out, "Refused BadTable ", u64::from(*rule)),
+        Refusal::BadTable { rule } => add_count(out, "Refused BadTable ", u64::from(*rule)),
         Refusal::Ambiguous { name } => add_named(out, "Refused Ambiguous ", name),
         Refusal::NoVariable { name } => add_named(out, "Refused NoVariable ", name),
         Refusal::VariableExists { name } => add_named(out, "Refused VariableExists ", name),
         Refusal::KeyUpdate { name } => add_named(out, "Refused KeyUpdate ", name),
-        Refusal::CountClash { wanted, got } => add_pair(
-            out,
-            "Refused CountClash ",
-            u64::from(*wanted),
-            " ",
-            u64::from(*got),
-        ),
-        Refusal::TooMany { limit } => add_counted(out, "Refused TooMany ", u64::from(*limit)),
-        Refusal::Exhausted { limit } => add_counted(out, "Refused Exhausted ", *limit),
-        Refusal::Stopped { event } => add_counted(out, "Refused Stopped at ", *event),
+        Refusal::CountClash { wanted, got } => add_count_clash(out, *wanted, *got),
+        Refusal::TooMany { limit } => add_count(out, "Refused TooMany ", u64::from(*limit)),
+        Refusal::Exhausted { limit } => add_count(out, "Refused Exhausted ", *limit),
+        Refusal::Stopped { event } => add_count(out, "Refused Stopped at ", *event),
     }
 }

@@ -3,10 +3,27 @@ ghost use Rattle.std.specs.Fmt.{decimal};
 ghost use Rattle.ct_machine.specs.Step.{op_name};
 ghost use Rattle.ct_machine.specs.Transcript.{joined, touched_text, verdict_text, copy_text, grid_text, reply_text};
 
-use crate::refusal::{add_counted, add_pair, add_refusal};
+use crate::refusal::{add_count, add_refusal};
 use crate::value::{add_key, add_rows, add_words};
 use ct_types::{CopyOut, Grid, List, Op, Reply, Text, Touched, Verdict};
 use std::alloc::AllocError;
+
+/// Adds a line of words and two numbers.
+fn add_pair(
+    out: &mut String,
+    before: &str,
+    first: u64,
+    between: &str,
+    second: u64,
+) -> Result<(), AllocError>
+    ensures { OnOk result (string_bytes out.new ≡ string_bytes out.old
+        ++ (before.now ++ decimal first ++ between.now ++ decimal second ++ codes "\n")) }
+{
+    out.push_str(before)?;
+    write!(out, "{first}")?;
+    out.push_str(between)?;
+    write!(out, "{second}\n")
+}
 
 fn letter(op: Op) -> &'static str
     ensures { result.now ≡ op_name op }
@@ -114,7 +131,7 @@ fn add_grid(out: &mut String, grid: &Grid) -> Result<(), AllocError>
     add_names(out, grid.names.as_slice())?;
     out.push_str("\n")?;
     add_rows(out, grid.rows.as_slice())?;
-    add_counted(out, "rows ", grid.rows.as_slice().len() as u64)
+    add_count(out, "rows ", grid.rows.as_slice().len() as u64)
 }
 
 /// Adds the lines of a reply.
@@ -124,9 +141,9 @@ pub(crate) fn add_reply(out: &mut String, reply: &Reply) -> Result<(), AllocErro
 {
     match reply {
         Reply::Done => add_words(out, "OK\n"),
-        Reply::Count(count) => add_counted(out, "rows ", *count),
+        Reply::Count(count) => add_count(out, "rows ", *count),
         Reply::Rows(grid) => add_grid(out, grid),
-        Reply::Raised(count) => add_counted(out, "raised ", u64::from(*count)),
+        Reply::Raised(count) => add_count(out, "raised ", u64::from(*count)),
         Reply::Verdict(verdict) => add_verdict(out, verdict),
         Reply::Copied(copied) => add_copy(out, copied),
         Reply::Refused(refusal) => add_refusal(out, refusal),

@@ -3,7 +3,7 @@ use Rattle.ct_print.proofs.refusal.add_refusal.Goals as goal
 
 pub returns-in-Syntax : goal.returns-in-Syntax
 unfolding refusal_text
-returns-in-Syntax c = rw c.in-Syntax.is (rw c.from.ensures at c.add_counted.ensures)
+returns-in-Syntax c = rw c.in-Syntax.is (rw c.from.ensures at c.add_count.ensures)
 
 pub returns-in-NoColumn : goal.returns-in-NoColumn
 unfolding refusal_text
@@ -55,7 +55,7 @@ returns-in-TooLong c = rw c.in-TooLong.is c.add_named-in-TooLong.ensures
 
 pub returns-in-LogFull : goal.returns-in-LogFull
 unfolding refusal_text
-returns-in-LogFull c = rw c.in-LogFull.is c.add_pair.ensures
+returns-in-LogFull c = rw c.in-LogFull.is c.add_log_full.ensures
 
 pub returns-in-NotTracked : goal.returns-in-NotTracked
 unfolding refusal_text
@@ -99,15 +99,15 @@ returns-in-Memory c = rw c.in-Memory.is c.add_words-in-Memory.ensures
 
 pub returns-in-TablesTracked : goal.returns-in-TablesTracked
 unfolding refusal_text
-returns-in-TablesTracked c = rw c.in-TablesTracked.is (rw c.from-in-TablesTracked.ensures at c.add_counted-in-TablesTracked.ensures)
+returns-in-TablesTracked c = rw c.in-TablesTracked.is (rw c.from-in-TablesTracked.ensures at c.add_count-in-TablesTracked.ensures)
 
 pub returns-in-CheckpointBusy : goal.returns-in-CheckpointBusy
 unfolding refusal_text
-returns-in-CheckpointBusy c = rw c.in-CheckpointBusy.is (rw c.from-in-CheckpointBusy.ensures at c.add_counted-in-CheckpointBusy.ensures)
+returns-in-CheckpointBusy c = rw c.in-CheckpointBusy.is (rw c.from-in-CheckpointBusy.ensures at c.add_count-in-CheckpointBusy.ensures)
 
 pub returns-in-BadTable : goal.returns-in-BadTable
 unfolding refusal_text
-returns-in-BadTable c = rw c.in-BadTable.is (rw c.from-in-BadTable.ensures at c.add_counted-in-BadTable.ensures)
+returns-in-BadTable c = rw c.in-BadTable.is (rw c.from-in-BadTable.ensures at c.add_count-in-BadTable.ensures)
 
 pub returns-in-Ambiguous : goal.returns-in-Ambiguous
 unfolding refusal_text
@@ -127,16 +127,16 @@ returns-in-KeyUpdate c = rw c.in-KeyUpdate.is c.add_named-in-KeyUpdate.ensures
 
 pub returns-in-CountClash : goal.returns-in-CountClash
 unfolding refusal_text
-returns-in-CountClash c = rw c.in-CountClash.is (rw (c.from-in-CountClash.ensures, c.from-in-CountClash-2.ensures) at c.add_pair-in-CountClash.ensures)
+returns-in-CountClash c = rw c.in-CountClash.is c.add_count_clash.ensures
 
 pub returns-in-TooMany : goal.returns-in-TooMany
 unfolding refusal_text
-returns-in-TooMany c = rw c.in-TooMany.is (rw c.from-in-TooMany.ensures at c.add_counted-in-TooMany.ensures)
+returns-in-TooMany c = rw c.in-TooMany.is (rw c.from-in-TooMany.ensures at c.add_count-in-TooMany.ensures)
 
 pub returns-in-Exhausted : goal.returns-in-Exhausted
 unfolding refusal_text
-returns-in-Exhausted c = rw c.in-Exhausted.is c.add_counted-in-Exhausted.ensures
+returns-in-Exhausted c = rw c.in-Exhausted.is c.add_count-in-Exhausted.ensures
 
 pub returns-in-Stopped : goal.returns-in-Stopped
 unfolding refusal_text
-returns-in-Stopped c = rw c.in-Stopped.is c.add_counted-in-Stopped.ensures
+returns-in-Stopped c = rw c.in-Stopped.is c.add_count-in-Stopped.ensures

@@ -7,7 +7,7 @@ returns-in-Done c = rw c.in-Done.is c.add_words.ensures
 
 pub returns-in-Count : goal.returns-in-Count
 unfolding reply_text
-returns-in-Count c = rw c.in-Count.is c.add_counted.ensures
+returns-in-Count c = rw c.in-Count.is c.add_count.ensures
 
 pub returns-in-Rows : goal.returns-in-Rows
 unfolding reply_text
@@ -15,7 +15,7 @@ returns-in-Rows c = rw c.in-Rows.is c.add_grid.ensures
 
 pub returns-in-Raised : goal.returns-in-Raised
 unfolding reply_text
-returns-in-Raised c = rw c.in-Raised.is (rw c.from.ensures at c.add_counted-in-Raised.ensures)
+returns-in-Raised c = rw c.in-Raised.is (rw c.from.ensures at c.add_count-in-Raised.ensures)
 
 pub returns-in-Verdict : goal.returns-in-Verdict
 unfolding reply_text
