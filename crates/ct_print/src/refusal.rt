@@ -65,6 +65,20 @@ fn add_log_full(out: &mut String, used: u64, needed: u64) -> Result<(), AllocErr
 }
 
 #[tactic(auto, unfolding(ct_machine::specs::Transcript::refusal_text))]
+fn add_tables_tracked(out: &mut String, count: u32) -> Result<(), AllocError>
+    ensures { OnOk result (string_bytes out.new ≡ string_bytes out.old ++ refusal_text (Refusal.TablesTracked count)) }
+{
+    write!(out, "Refused TablesTracked {count}\n")
+}
+
+#[tactic(auto, unfolding(ct_machine::specs::Transcript::refusal_text))]
+fn add_checkpoint_busy(out: &mut String, owner: u8) -> Result<(), AllocError>
+    ensures { OnOk result (string_bytes out.new ≡ string_bytes out.old ++ refusal_text (Refusal.CheckpointBusy owner)) }
+{
+    write!(out, "Refused CheckpointBusy {owner}\n")
+}
+
+#[tactic(auto, unfolding(ct_machine::specs::Transcript::refusal_text))]
 fn add_count_clash(out: &mut String, wanted: u32, got: u32) -> Result<(), AllocError>
     ensures { OnOk result (string_bytes out.new ≡ string_bytes out.old ++ refusal_text (Refusal.CountClash wanted got)) }
 {
@@ -101,16 +115,8 @@ pub(crate) fn add_refusal(out: &mut String, refusal: &Refusal) -> Result<(), All
         Refusal::BadRetention => add_words(out, "Refused BadRetention\n"),
         Refusal::DiskFault => add_words(out, "Refused DiskFault\n"),
         Refusal::Memory => add_words(out, "Refused Memory\n"),
-        Refusal::TablesTracked { count } => add_count(
-            out,
-            "Refused TablesTracked ",
-            u64::from(*count),
-        ),
-        Refusal::CheckpointBusy { owner } => add_count(
-            out,
-            "Refused CheckpointBusy ",
-            u64::from(*owner),
-        ),
+        Refusal::TablesTracked { count } => add_tables_tracked(out, *count),
+        Refusal::CheckpointBusy { owner } => add_checkpoint_busy(out, *owner),
         Refusal::BadTable { rule } => add_count(out, "Refused BadTable ", u64::from(*rule)),
         Refusal::Ambiguous { name } => add_named(out, "Refused Ambiguous ", name),
         Refusal::NoVariable { name } => add_named(out, "Refused NoVariable ", name),

@@ -99,11 +99,11 @@ returns-in-Memory c = rw c.in-Memory.is c.add_words-in-Memory.ensures
 
 pub returns-in-TablesTracked : goal.returns-in-TablesTracked
 unfolding refusal_text
-returns-in-TablesTracked c = rw c.in-TablesTracked.is (rw c.from-in-TablesTracked.ensures at c.add_count-in-TablesTracked.ensures)
+returns-in-TablesTracked c = rw c.in-TablesTracked.is c.add_tables_tracked.ensures
 
 pub returns-in-CheckpointBusy : goal.returns-in-CheckpointBusy
 unfolding refusal_text
-returns-in-CheckpointBusy c = rw c.in-CheckpointBusy.is (rw c.from-in-CheckpointBusy.ensures at c.add_count-in-CheckpointBusy.ensures)
+returns-in-CheckpointBusy c = rw c.in-CheckpointBusy.is c.add_checkpoint_busy.ensures
 
 pub returns-in-BadTable : goal.returns-in-BadTable
 unfolding refusal_text
