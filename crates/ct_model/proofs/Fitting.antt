@@ -50,7 +50,7 @@ picked_hold columns values hold (id ∷ ids) =
 pub key_of_fits : (schema : Schema) (row : Row) → RowFits schema row → KeyFits schema (key_of schema row)
 key_of_fits schema row fits = picked_hold schema.columns row.0 fits schema.key
 
-equal_of : (o : Ordering) → is_eq o ≡ true → o ≡ Equal
+pub equal_of : (o : Ordering) → is_eq o ≡ true → o ≡ Equal
 equal_of Less e = cc
 equal_of Equal e = refl
 equal_of Greater e = cc

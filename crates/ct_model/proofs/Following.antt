@@ -74,7 +74,7 @@ pub written_schema : (write : Write) (t : Table) → (written write t).schema �
 written_schema write t =
     elim (eqb t.schema.id write.table) as (λ b. (cond b (record t { rows = rows_with t.schema t.rows write.key write.row }) t).schema ≡ t.schema) [ true ↦ refl | false ↦ refl ]
 
-written_tracked : (write : Write) (t : Table) → (written write t).tracked ≡ t.tracked
+pub written_tracked : (write : Write) (t : Table) → (written write t).tracked ≡ t.tracked
 written_tracked write t =
     elim (eqb t.schema.id write.table) as (λ b. (cond b (record t { rows = rows_with t.schema t.rows write.key write.row }) t).tracked ≡ t.tracked) [ true ↦ refl | false ↦ refl ]
 
@@ -111,7 +111,7 @@ with_min_masks : (min : ℕ) (tracked : Option Tracked) → has_masks (with_min 
 with_min_masks min None = refl
 with_min_masks min (Some tracked) = refl
 
-raised_schema : (listed : Min) (t : Table) → (raised listed t).schema ≡ t.schema
+pub raised_schema : (listed : Min) (t : Table) → (raised listed t).schema ≡ t.schema
 raised_schema listed t =
     elim (eqb t.schema.id listed.table) as (λ b. (cond b (record t { tracked = with_min listed.min t.tracked }) t).schema ≡ t.schema) [ true ↦ refl | false ↦ refl ]
 
@@ -120,10 +120,10 @@ raised_masks listed t =
     elim (eqb t.schema.id listed.table) as (λ b. has_masks (cond b (record t { tracked = with_min listed.min t.tracked }) t).tracked ≡ has_masks t.tracked)
     [ true ↦ with_min_masks listed.min t.tracked | false ↦ refl ]
 
-abbrev after_raises : List Min → Table → Table
+abbrev pub after_raises : List Min → Table → Table
 after_raises minima table = fold (λ t listed. raised listed t) table minima
 
-after_raises_schema : (minima : List Min) (t : Table) → (after_raises minima t).schema ≡ t.schema
+pub after_raises_schema : (minima : List Min) (t : Table) → (after_raises minima t).schema ≡ t.schema
 after_raises_schema [] t = refl
 after_raises_schema (listed ∷ minima) t = after_raises_schema minima (raised listed t) ∙ raised_schema listed t
 
@@ -140,7 +140,7 @@ choose_masks : (draws : Bool) (version : ℕ) (tracked : Option Tracked) → has
 choose_masks true version tracked = with_min_masks version tracked
 choose_masks false version tracked = refl
 
-truncation_keeps : (id version : ℕ) (draws : Bool) → KeepsTable version (truncated id version draws)
+pub truncation_keeps : (id version : ℕ) (draws : Bool) → KeepsTable version (truncated id version draws)
 truncation_keeps id version draws = record {
   schema = λ t. elim (eqb t.schema.id id) as (λ b. (cond b (record t { rows = []; tracked = cond draws (with_min version t.tracked) t.tracked }) t).schema ≡ t.schema) [ true ↦ refl | false ↦ refl ];
   masks = λ v t le above.
@@ -156,9 +156,12 @@ none_above version v le = grind (arith, nat_tests)
 abbrev HasNoneAbove : ℕ → Option Tracked → Type 0
 HasNoneAbove version tracked = (v : ℕ) → v ≤ version → is_above v tracked ≡ false
 
+pub tracked_as_schema : (id : ℕ) (tracked : Option Tracked) (t : Table) → (tracked_as id tracked t).schema ≡ t.schema
+tracked_as_schema id tracked t = elim (eqb t.schema.id id) as (λ b. (cond b (record t { tracked = tracked }) t).schema ≡ t.schema) [ true ↦ refl | false ↦ refl ]
+
 tracking_keeps : (id version : ℕ) (tracked : Option Tracked) → HasNoneAbove version tracked → KeepsTable version (tracked_as id tracked)
 tracking_keeps id version tracked none = record {
-  schema = λ t. elim (eqb t.schema.id id) as (λ b. (cond b (record t { tracked = tracked }) t).schema ≡ t.schema) [ true ↦ refl | false ↦ refl ];
+  schema = tracked_as_schema id tracked;
   masks = λ v t le above.
       let step : (b : Bool) → is_above v (cond b (record t { tracked = tracked }) t).tracked ≡ true → has_masks (cond b (record t { tracked = tracked }) t).tracked ≡ has_masks t.tracked =
       elim [ true ↦ (λ a. cc (none v le, a)) | false ↦ (λ a. refl) ] in

@@ -68,3 +68,11 @@ stays_above version change first (t ∷ ts) numbered stays =
     here : (a later : Bool) → later ≡ false → (a || later) ≡ true → a ≡ true
     here true later none e = refl
     here false later none e = cc
+
+-- what is found by an id has it
+pub found_itself : (P : Table → Type 0) (tables : List Table) (id : ℕ) → IsSomeAnd (table_of tables id) P → IsSomeAnd (table_of tables id) (λ t. (t.schema.id ≡ id) × P t)
+found_itself P [] id found = found
+found_itself P (t ∷ ts) id found =
+    let step : (b : Bool) → b ≡ eqb t.schema.id id → IsSomeAnd (cond b (Some t) (table_of ts id)) P → IsSomeAnd (cond b (Some t) (table_of ts id)) (λ t. (t.schema.id ≡ id) × P t) =
+    elim [ true ↦ (λ e p. (eqb-true _ _ (sym e), p)) | false ↦ (λ e p. found_itself P ts id p) ] in
+    step (eqb t.schema.id id) refl found

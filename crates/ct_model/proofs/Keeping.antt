@@ -44,7 +44,7 @@ none_numbered P id first [] numbered lt = tt
 none_numbered P id first (t ∷ ts) numbered lt = ((λ e. absurd (omega (arith, numbered.0))), none_numbered P id (first + 1) ts numbered.1 (omega arith))
 
 -- what holds of the table that is found holds of each table of that id
-each_found : (P : Table → Type 0) (id first : ℕ) (tables : List Table) → AreNumbered first tables → IsSomeAnd (table_of tables id) P → AllByRecursion (λ t. t.schema.id ≡ id → P t) tables
+pub each_found : (P : Table → Type 0) (id first : ℕ) (tables : List Table) → AreNumbered first tables → IsSomeAnd (table_of tables id) P → AllByRecursion (λ t. t.schema.id ≡ id → P t) tables
 each_found P id first [] numbered found = tt
 each_found P id first (t ∷ ts) numbered found =
     let step : (b : Bool) → b ≡ eqb t.schema.id id → IsSomeAnd (cond b (Some t) (table_of ts id)) P → AllByRecursion (λ t. t.schema.id ≡ id → P t) (t ∷ ts) =

@@ -15,17 +15,17 @@ use Rattle.ct_model.specs.Tables.{key_of, rows_with}
 use Rattle.ct_model.specs.Valid.{AreRising}
 use Rattle.ct_model.proofs.Members.{all_weaken, all_everywhere, all_append, all_filter, each_filter, each_append}
 
-less_of : (o : Ordering) → is_lt o ≡ true → o ≡ Less
+pub less_of : (o : Ordering) → is_lt o ≡ true → o ≡ Less
 less_of Less e = refl
 less_of Equal e = cc
 less_of Greater e = cc
 
-greater_of : (o : Ordering) → is_gt o ≡ true → o ≡ Greater
+pub greater_of : (o : Ordering) → is_gt o ≡ true → o ≡ Greater
 greater_of Less e = cc
 greater_of Equal e = cc
 greater_of Greater e = refl
 
-turned : (a b : Key) → key_cmp a b ≡ Greater → key_cmp b a ≡ Less
+pub turned : (a b : Key) → key_cmp a b ≡ Greater → key_cmp b a ≡ Less
 turned a b e = key_cmp_total.antisymm b a ∙ ap ordering_reverse e
 
 -- a row has this key, where there is one

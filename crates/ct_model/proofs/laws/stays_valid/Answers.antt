@@ -1,4 +1,4 @@
-use Rattle.std.proofs.Common.{◌≡◌, ◌≤◌, ◌<◌, ◌+◌, ◌^◌, ℕ, Bool, true, false, if◌then◌else◌, List, [], ◌∷◌, ◌++◌, None, Some, arith}
+use Rattle.std.proofs.Common.{◌≡◌, ◌≤◌, ◌<◌, ◌^◌, ℕ, Bool, true, false, if◌then◌else◌, List, [], ◌∷◌, ◌++◌, None, Some, arith}
 use Rattle.std.specs.List.{AllByRecursion}
 use Rattle.std.proofs.Math.Nat.{le-max_left, le-max_right}
 use Rattle.ct_types.specs.declared.entry.Kept.{Kept}
@@ -11,19 +11,11 @@ use Rattle.ct_model.specs.Apply.{apply, kept_of, keep_after, tables_after}
 use Rattle.ct_model.specs.Lists.{EachToLater}
 use Rattle.ct_model.specs.Valid.{IsKeepValid, ComesBefore, IsValid}
 use Rattle.ct_model.proofs.Members.{all_weaken, all_join, all_added, each_added}
+use Rattle.ct_model.proofs.Rises.{version_rises, drawn_rises}
 use Rattle.ct_model.proofs.Following.{TablesFollow, tables_follow}
 use Rattle.ct_model.proofs.Keeping.{tables_keep}
 use Rattle.ct_model.proofs.Carrying.{IsCarried, trim_valid, trim_ordered, still_carried, added_valid}
 use Rattle.ct_model.proofs.laws.stays_valid.Goals as goal
-
--- an entry that draws has the next version, and one that does not the same
-version_rises : (draws : Bool) (old new : ℕ) → new ≡ (if draws then old + 1 else old) → old ≤ new
-version_rises true old new e = omega (arith, e)
-version_rises false old new e = omega (arith, e)
-
-drawn_rises : (draws : Bool) (old new : ℕ) → new ≡ (if draws then old + 1 else old) → draws ≡ true → old < new
-drawn_rises true old new e drawn = omega (arith, e)
-drawn_rises false old new e drawn = cc
 
 xdes_within : (db : Db) (act : Act) (xdes : ℕ) → XdesApplies db act xdes → xdes ≤ 2 ^ 62
 xdes_within db (Commit writes) xdes new = new.1
