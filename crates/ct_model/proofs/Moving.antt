@@ -45,8 +45,9 @@ TableMoves noted changes old new = IsWithin noted new.tracked → Moves noted ch
 itself : (noted : ℕ) (changes : List Change) (t : Table) → TableMoves noted changes t t
 itself noted changes t within = record { schema = refl; tracked = within; rows = λ key. inl refl }
 
-moves_map : (noted : ℕ) (changes : List Change) (P : Table → Type 0) (f : Table → Table) → ((t : Table) → (f t).schema ≡ t.schema) → ((t : Table) → P t → TableMoves noted changes t (f t)) → (tables : List Table) (id : ℕ)
-    → AllByRecursion P tables → FoundMoves noted changes (table_of tables id) (table_of (map f tables) id)
+moves_map : (noted : ℕ) (changes : List Change) (P : Table → Type 0) (f : Table → Table) → ((t : Table) → (f t).schema ≡ t.schema)
+    → ((t : Table) → P t → TableMoves noted changes t (f t)) → (tables : List Table) (id : ℕ) → AllByRecursion P tables
+    → FoundMoves noted changes (table_of tables id) (table_of (map f tables) id)
 moves_map noted changes P f same moves [] id all after is within = cc
 moves_map noted changes P f same moves (t ∷ ts) id all after is within =
     let there : cond (eqb t.schema.id id) (Some (f t)) (table_of (map f ts) id) ≡ Some after = subst (λ s. cond (eqb s.id id) (Some (f t)) (table_of (map f ts) id) ≡ Some after) (same t) is in
@@ -64,11 +65,13 @@ abbrev WritesOn : List Write → Table → Type 0
 WritesOn [] table = Unit {0}
 WritesOn (write ∷ writes) table = (table.schema.id ≡ write.table → WriteFits write table) × WritesOn writes (written write table)
 
-all_from_map : {X : Type 0} (P Q : X → Type 0) (f : X → X) (xs : List X) → AllByRecursion P (map f xs) → AllByRecursion Q xs → AllByRecursion (λ x. Q x × P (f x)) xs
+all_from_map : {X : Type 0} (P Q : X → Type 0) (f : X → X) (xs : List X) → AllByRecursion P (map f xs) → AllByRecursion Q xs
+    → AllByRecursion (λ x. Q x × P (f x)) xs
 all_from_map P Q f [] ps qs = tt
 all_from_map P Q f (x ∷ xs) ps qs = ((qs.0, ps.0), all_from_map P Q f xs ps.1 qs.1)
 
-writes_on : (writes : List Write) (tables : List Table) → AreNumbered 1 tables → WritesApply tables writes → AllByRecursion (WritesOn writes) tables
+writes_on : (writes : List Write) (tables : List Table) → AreNumbered 1 tables → WritesApply tables writes
+    → AllByRecursion (WritesOn writes) tables
 writes_on [] tables numbered apply = all_everywhere _ (λ t. tt) tables
 writes_on (write ∷ writes) tables numbered apply =
     all_from_map (WritesOn writes) (λ t. t.schema.id ≡ write.table → WriteFits write t) (written write) tables
@@ -117,14 +120,16 @@ writes_move (write ∷ writes) t key tracked on =
     join A B C W S (inl e) (inr s) = inr (inr s)
     join A B C W S (inl e) (inl f) = inl (f ∙ e)
 
-write_changes : (id : ℕ) (key : Key) (writes : List Write) → Somewhere (IsWriteOf id key) writes → Somewhere (IsOf id key) (map change_of (filter (λ write. write.tracked) writes))
+write_changes : (id : ℕ) (key : Key) (writes : List Write) → Somewhere (IsWriteOf id key) writes
+    → Somewhere (IsOf id key) (map change_of (filter (λ write. write.tracked) writes))
 write_changes id key writes some = some_map (IsWriteOf id key) (IsOf id key) change_of (λ write is. (is.1, is.2)) _ (some_filter (IsWriteOf id key) (λ write. write.tracked) (λ write is. is.0) writes some)
 
 within_some : (noted : ℕ) (tracked : Option Tracked) → IsWithin noted tracked → is_some tracked ≡ true
 within_some noted None within = elim within [ ]
 within_some noted (Some tracked) within = refl
 
-commit_moves : (noted : ℕ) (writes : List Write) (t : Table) → WritesOn writes t → TableMoves noted (changes_of (Commit writes)) t (after_writes writes t)
+commit_moves : (noted : ℕ) (writes : List Write) (t : Table) → WritesOn writes t
+    → TableMoves noted (changes_of (Commit writes)) t (after_writes writes t)
 commit_moves noted writes t on within =
     let tracked = subst (IsWithin noted) (after_writes_tracked writes t) within in
     record {
@@ -157,13 +162,15 @@ min_grows min None now rises grown = elim rises [ ]
 min_grows min (Some before) None rises grown = grown
 min_grows min (Some before) (Some now) rises grown = omega (arith, rises)
 
-raise_grows : (before : Option Tracked) (listed : Min) (t : Table) → (t.schema.id ≡ listed.table → MinRises listed.min before) → HasGrown before t.tracked → HasGrown before (raised listed t).tracked
+raise_grows : (before : Option Tracked) (listed : Min) (t : Table) → (t.schema.id ≡ listed.table → MinRises listed.min before)
+    → HasGrown before t.tracked → HasGrown before (raised listed t).tracked
 raise_grows before listed t rises grown =
     let step : (b : Bool) → b ≡ eqb t.schema.id listed.table → HasGrown before (cond b (record t { tracked = with_min listed.min t.tracked }) t).tracked =
     elim [ true ↦ (λ e. min_grows listed.min before t.tracked (rises (eqb-true _ _ (sym e))) grown) | false ↦ (λ e. grown) ] in
     step (eqb t.schema.id listed.table) refl
 
-raises_grow : (before : Option Tracked) (minima : List Min) (t : Table) → AllByRecursion (λ listed. t.schema.id ≡ listed.table → MinRises listed.min before) minima → HasGrown before t.tracked
+raises_grow : (before : Option Tracked) (minima : List Min) (t : Table)
+    → AllByRecursion (λ listed. t.schema.id ≡ listed.table → MinRises listed.min before) minima → HasGrown before t.tracked
     → HasGrown before (after_raises minima t).tracked
 raises_grow before [] t rises grown = grown
 raises_grow before (listed ∷ minima) t rises grown =
@@ -187,11 +194,13 @@ raise_moves noted minima t rises within = record {
   rows = λ key. inl (ap (λ rows. row_at t.schema rows key) (after_raises_rows minima t));
 }
 
-all_cons : {A X : Type 0} (R : A → X → Type 0) (a : A) (others : List A) (xs : List X) → AllByRecursion (R a) xs → AllByRecursion (λ x. AllByRecursion (λ b. R b x) others) xs → AllByRecursion (λ x. AllByRecursion (λ b. R b x) (a ∷ others)) xs
+all_cons : {A X : Type 0} (R : A → X → Type 0) (a : A) (others : List A) (xs : List X) → AllByRecursion (R a) xs
+    → AllByRecursion (λ x. AllByRecursion (λ b. R b x) others) xs → AllByRecursion (λ x. AllByRecursion (λ b. R b x) (a ∷ others)) xs
 all_cons R a others [] ps qs = tt
 all_cons R a others (x ∷ xs) ps qs = ((ps.0, qs.0), all_cons R a others xs ps.1 qs.1)
 
-raises_on : (version : ℕ) (minima : List Min) (tables : List Table) → AreNumbered 1 tables → AllByRecursion (IsRaise tables version) minima → AllByRecursion (RaisesOn minima) tables
+raises_on : (version : ℕ) (minima : List Min) (tables : List Table) → AreNumbered 1 tables → AllByRecursion (IsRaise tables version) minima
+    → AllByRecursion (RaisesOn minima) tables
 raises_on version [] tables numbered raises = all_everywhere _ (λ t. tt) tables
 raises_on version (listed ∷ minima) tables numbered raises =
     all_cons (λ listed t. t.schema.id ≡ listed.table → MinRises listed.min t.tracked) listed minima tables
@@ -200,25 +209,29 @@ raises_on version (listed ∷ minima) tables numbered raises =
 
 -- a truncation, and tracking that goes on or off
 
-draws_within : (noted version : ℕ) (draws : Bool) (tracked : Option Tracked) → draws ≡ is_some tracked → (draws ≡ true → noted < version) → IsWithin noted (cond draws (with_min version tracked) tracked) → ⊥
+draws_within : (noted version : ℕ) (draws : Bool) (tracked : Option Tracked) → draws ≡ is_some tracked → (draws ≡ true → noted < version)
+    → IsWithin noted (cond draws (with_min version tracked) tracked) → ⊥
 draws_within noted version true None is above within = cc
 draws_within noted version true (Some tracked) is above within = let lt : noted < version = above refl in omega (arith, within)
 draws_within noted version false None is above within = within
 draws_within noted version false (Some tracked) is above within = cc
 
-truncation_moves : (noted id version : ℕ) (draws : Bool) (t : Table) → (draws ≡ true → noted < version) → (t.schema.id ≡ id → draws ≡ is_some t.tracked) → TableMoves noted [] t (truncated id version draws t)
+truncation_moves : (noted id version : ℕ) (draws : Bool) (t : Table) → (draws ≡ true → noted < version)
+    → (t.schema.id ≡ id → draws ≡ is_some t.tracked) → TableMoves noted [] t (truncated id version draws t)
 truncation_moves noted id version draws t above is =
     let step : (b : Bool) → b ≡ eqb t.schema.id id → TableMoves noted [] t (cond b (record t { rows = []; tracked = cond draws (with_min version t.tracked) t.tracked }) t) =
     elim [ true ↦ (λ e within. absurd (draws_within noted version draws t.tracked (is (eqb-true _ _ (sym e))) above within)) | false ↦ (λ e. itself noted [] t) ] in
     step (eqb t.schema.id id) refl
 
-tracking_moves : (noted id : ℕ) (tracked : Option Tracked) (t : Table) → (IsWithin noted tracked → ⊥) → TableMoves noted [] t (tracked_as id tracked t)
+tracking_moves : (noted id : ℕ) (tracked : Option Tracked) (t : Table) → (IsWithin noted tracked → ⊥)
+    → TableMoves noted [] t (tracked_as id tracked t)
 tracking_moves noted id tracked t never =
     elim (eqb t.schema.id id) as (λ b. TableMoves noted [] t (cond b (record t { tracked = tracked }) t)) [ true ↦ (λ within. absurd (never within)) | false ↦ itself noted [] t ]
 
 -- a definition: the new table is not tracked
 
-define_moves : (noted : ℕ) (schema : Schema) (tables : List Table) (id : ℕ) → FoundMoves noted [] (table_of tables id) (table_of (tables ++ record { schema = schema; rows = []; tracked = None } ∷ []) id)
+define_moves : (noted : ℕ) (schema : Schema) (tables : List Table) (id : ℕ)
+    → FoundMoves noted [] (table_of tables id) (table_of (tables ++ record { schema = schema; rows = []; tracked = None } ∷ []) id)
 define_moves noted schema [] id after is within =
     let step : (b : Bool) → cond b (Some (record { schema = schema; rows = []; tracked = None })) None ≡ Some after → (before : Table) × (None ≡ Some before) × Moves noted [] before after =
     elim [
@@ -232,7 +245,8 @@ define_moves noted schema (t ∷ ts) id after is within =
     elim [ true ↦ (λ e. (after, e, itself noted [] after within)) | false ↦ (λ e. define_moves noted schema ts id after e within) ] in
     step (eqb t.schema.id id) is
 
-pub tables_move : (db : Db) (version noted id : ℕ) (draws : Bool) (act : Act) → (draws ≡ true → noted < version) → ActApplies db version draws act → AreNumbered 1 db.tables
+pub tables_move : (db : Db) (version noted id : ℕ) (draws : Bool) (act : Act) → (draws ≡ true → noted < version)
+    → ActApplies db version draws act → AreNumbered 1 db.tables
     → FoundMoves noted (changes_of act) (table_of db.tables id) (table_of (tables_after act version draws db.tables) id)
 tables_move db version noted id draws (Commit writes) above applies numbered =
     rw (fold_of_maps written writes db.tables)
@@ -253,7 +267,8 @@ tables_move db version noted id draws (Raise minima) above applies numbered =
     (moves_map noted [] (RaisesOn minima) (after_raises minima) (after_raises_schema minima) (raise_moves noted minima) db.tables id (raises_on version minima db.tables numbered applies.2))
 
 -- an act with changes draws
-pub changes_draw : (db : Db) (version id : ℕ) (key : Key) (draws : Bool) (act : Act) → ActApplies db version draws act → Somewhere (IsOf id key) (changes_of act) → draws ≡ true
+pub changes_draw : (db : Db) (version id : ℕ) (key : Key) (draws : Bool) (act : Act) → ActApplies db version draws act
+    → Somewhere (IsOf id key) (changes_of act) → draws ≡ true
 changes_draw db version id key draws (Commit writes) applies some =
     applies.2 ∙ any_from_some (λ write. write.tracked ≡ true) (λ write. write.tracked) (λ write e. e) writes
     (some_from_filter (λ write. Unit {0}) _ (λ write. write.tracked) (λ write e u. e) writes (some_from_map (λ write. Unit {0}) (IsOf id key) change_of (λ write is. tt) _ some))

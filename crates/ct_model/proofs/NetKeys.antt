@@ -83,11 +83,13 @@ with_key_keeps keys key other some =
     ] in
     step (key_cmp other key) refl
 
-keys_keep : (changes : List Dated) (keys : List Key) (other : Key) → Somewhere (λ k. k ≡ other) keys → Somewhere (λ k. k ≡ other) (fold (λ keys dated. with_key keys dated.change.key) keys changes)
+keys_keep : (changes : List Dated) (keys : List Key) (other : Key) → Somewhere (λ k. k ≡ other) keys
+    → Somewhere (λ k. k ≡ other) (fold (λ keys dated. with_key keys dated.change.key) keys changes)
 keys_keep [] keys other some = some
 keys_keep (dated ∷ changes) keys other some = keys_keep changes (with_key keys dated.change.key) other (with_key_keeps keys dated.change.key other some)
 
-keys_have : (changes : List Dated) (keys : List Key) (key : Key) → Somewhere (HasKey key) changes → Somewhere (λ k. k ≡ key) (fold (λ keys dated. with_key keys dated.change.key) keys changes)
+keys_have : (changes : List Dated) (keys : List Key) (key : Key) → Somewhere (HasKey key) changes
+    → Somewhere (λ k. k ≡ key) (fold (λ keys dated. with_key keys dated.change.key) keys changes)
 keys_have [] keys key some = elim some [ ]
 keys_have (dated ∷ changes) keys key (inl is) = keys_keep changes (with_key keys dated.change.key) key (with_key_itself keys dated.change.key key is)
 keys_have (dated ∷ changes) keys key (inr some) = keys_have changes (with_key keys dated.change.key) key some
@@ -108,14 +110,16 @@ last_of_window changes key some =
     (some_filter (HasKey key) _ (λ dated is. ap (λ k. is_eq (key_cmp k key)) is ∙ ap is_eq (tied_itself key_cmp_total key)) changes some)
     (all_filter (λ dated. Unit {0}) (HasKey key) _ (λ dated e u. key_cmp_exact dated.change.key key (equal_of _ e)) changes (all_everywhere _ (λ dated. tt) changes))
 
-rows_have : (schema : Schema) (masks : Bool) (changes : List Dated) (key : Key) → Somewhere (HasKey key) changes → Somewhere (λ row. row.key ≡ key) (net_rows schema masks changes)
+rows_have : (schema : Schema) (masks : Bool) (changes : List Dated) (key : Key) → Somewhere (HasKey key) changes
+    → Somewhere (λ row. row.key ≡ key) (net_rows schema masks changes)
 rows_have schema masks changes key some =
     some_filter_map (λ k. k ≡ key) (λ row. row.key ≡ key) (λ k. option_map (row_of schema masks (window changes k)) (last_of (window changes k)))
     (λ k is. subst (λ k. IsSomeAnd (option_map (row_of schema masks (window changes k)) (last_of (window changes k))) (λ row. row.key ≡ key)) (sym is)
     (mapped_is (λ row. row.key ≡ key) (row_of schema masks (window changes key)) (last_of (window changes key)) (last_of_window changes key some)))
     (keys_of changes) (keys_have changes [] key some)
 
-rows_tell : (schema : Schema) (masks : Bool) (changes : List Dated) (key : Key) → Somewhere (λ row. row.key ≡ key) (net_rows schema masks changes) → Somewhere (HasKey key) changes
+rows_tell : (schema : Schema) (masks : Bool) (changes : List Dated) (key : Key)
+    → Somewhere (λ row. row.key ≡ key) (net_rows schema masks changes) → Somewhere (HasKey key) changes
 rows_tell schema masks changes key some =
     some_constant _ (keys_of changes)
     (some_from_filter_map (λ k. Somewhere (HasKey key) changes) (λ row. row.key ≡ key) (λ k. option_map (row_of schema masks (window changes k)) (last_of (window changes k)))
@@ -130,7 +134,8 @@ IsWithin noted tracked = IsSomeAnd tracked (λ tracked. tracked.min ≤ noted)
 floor_is : (min noted : ℕ) → min ≤ noted → max min noted ≡ noted
 floor_is min noted le = omega arith
 
-tracked_has : (schema : Schema) (tracked : Option Tracked) (kept : List Kept) (noted : ℕ) (key : Key) → IsWithin noted tracked → Somewhere (HasAbove schema.id noted key) kept
+tracked_has : (schema : Schema) (tracked : Option Tracked) (kept : List Kept) (noted : ℕ) (key : Key) → IsWithin noted tracked
+    → Somewhere (HasAbove schema.id noted key) kept
     → Contains (map (λ row. row.key) (net_tracked schema tracked kept (Some (pos noted)))) key
 tracked_has schema None kept noted key within has = elim within [ ]
 tracked_has schema (Some tracked) kept noted key within has =
@@ -140,7 +145,8 @@ tracked_has schema (Some tracked) kept noted key within has =
     (rows_have schema tracked.masks _ key (some_flat_map (HasAbove schema.id noted key) (HasKey key) (dated_in schema.id noted) (dated_has schema.id noted key) kept has))))
 
 tracked_tells : (schema : Schema) (tracked : Option Tracked) (kept : List Kept) (noted : ℕ) (key : Key) → IsWithin noted tracked
-    → Contains (map (λ row. row.key) (net_tracked schema tracked kept (Some (pos noted)))) key → Somewhere (HasAbove schema.id noted key) kept
+    → Contains (map (λ row. row.key) (net_tracked schema tracked kept (Some (pos noted)))) key
+    → Somewhere (HasAbove schema.id noted key) kept
 tracked_tells schema None kept noted key within contains = elim within [ ]
 tracked_tells schema (Some tracked) kept noted key within contains =
     let at = rw (floor_is tracked.min noted within) at contains in
@@ -149,8 +155,8 @@ tracked_tells schema (Some tracked) kept noted key within contains =
 
 -- a tracked table's net changes since a version up from its minimum have exactly the keys of the kept changes above it
 
-pub net_has : (db : Db) (id noted : ℕ) (table : Table) (key : Key) → table_of db.tables id ≡ Some table → IsWithin noted table.tracked → Somewhere (HasAbove table.schema.id noted key) db.kept
-    → Contains (map (λ row. row.key) (net db id (Some (pos noted)))) key
+pub net_has : (db : Db) (id noted : ℕ) (table : Table) (key : Key) → table_of db.tables id ≡ Some table → IsWithin noted table.tracked
+    → Somewhere (HasAbove table.schema.id noted key) db.kept → Contains (map (λ row. row.key) (net db id (Some (pos noted)))) key
 unfolding net
 net_has db id noted table key is within has = rw is (tracked_has table.schema table.tracked db.kept noted key within has)
 

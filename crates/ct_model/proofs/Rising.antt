@@ -36,7 +36,8 @@ one_rises : (schema : Schema) (row : Option Row) → AreRising schema (option_to
 one_rises schema None = tt
 one_rises schema (Some row) = (tt, tt)
 
-pub rows_rise : (schema : Schema) (rows : List Row) (key : Key) (row : Option Row) → AreRising schema rows → IsAt schema key row → AreRising schema (rows_with schema rows key row)
+pub rows_rise : (schema : Schema) (rows : List Row) (key : Key) (row : Option Row) → AreRising schema rows → IsAt schema key row
+    → AreRising schema (rows_with schema rows key row)
 rows_rise schema rows key row rising at =
     let R : Row → Row → Type 0 = (λ a b. key_cmp (key_of schema a) (key_of schema b) ≡ Less) in
     let is_low : Row → Bool = (λ r. is_lt (key_cmp (key_of schema r) key)) in
@@ -57,7 +58,8 @@ rows_rise schema rows key row rising at =
     each_append R (lows ++ mids) highs (each_append R lows mids (each_filter R is_low rows rising) (one_rises schema row) low_mid)
     (each_filter R is_high rows rising) (all_append _ lows mids low_high mid_high)
 
-pub rows_fit : (schema : Schema) (rows : List Row) (key : Key) (row : Option Row) → AllByRecursion (RowFits schema) rows → AllByRecursion (RowFits schema) (option_to_list row) → AllByRecursion (RowFits schema) (rows_with schema rows key row)
+pub rows_fit : (schema : Schema) (rows : List Row) (key : Key) (row : Option Row) → AllByRecursion (RowFits schema) rows
+    → AllByRecursion (RowFits schema) (option_to_list row) → AllByRecursion (RowFits schema) (rows_with schema rows key row)
 rows_fit schema rows key row fit here =
     let lows = filter (λ r. is_lt (key_cmp (key_of schema r) key)) rows in
     let highs = filter (λ r. is_gt (key_cmp (key_of schema r) key)) rows in

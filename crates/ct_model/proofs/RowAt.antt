@@ -40,7 +40,8 @@ below_fails a b e = ap is_eq e
 above_fails : (a b : Key) → key_cmp b a ≡ Less → is_eq (key_cmp a b) ≡ false
 above_fails a b e = ap is_eq (key_cmp_total.antisymm a b ∙ ap ordering_reverse e)
 
-row_here : (schema : Schema) (key : Key) (k : Key) (row : Option Row) → IsAt schema k row → is_eq (key_cmp k key) ≡ false → find (has_that_key schema key) (option_to_list row) ≡ None
+row_here : (schema : Schema) (key : Key) (k : Key) (row : Option Row) → IsAt schema k row → is_eq (key_cmp k key) ≡ false
+    → find (has_that_key schema key) (option_to_list row) ≡ None
 row_here schema key k None at other = refl
 row_here schema key k (Some row) at other = rw (ap (λ x. is_eq (key_cmp x key)) at.0 ∙ other) refl
 
@@ -62,7 +63,8 @@ row_split schema rows k key row =
     (find-append (has_that_key schema key) (filter (λ r. is_lt (key_cmp (key_of schema r) k)) rows) (option_to_list row))
 
 -- the row of a greater key
-row_above : (schema : Schema) (rows : List Row) (k key : Key) (row : Option Row) → IsAt schema k row → key_cmp k key ≡ Less → row_at schema (rows_with schema rows k row) key ≡ row_at schema rows key
+row_above : (schema : Schema) (rows : List Row) (k key : Key) (row : Option Row) → IsAt schema k row → key_cmp k key ≡ Less
+    → row_at schema (rows_with schema rows k row) key ≡ row_at schema rows key
 row_above schema rows k key row at less =
     row_split schema rows k key row
     ∙ joined_last _ _ _ _
@@ -72,7 +74,8 @@ row_above schema rows k key row at less =
     (λ r e. ap (λ x. is_gt (key_cmp x k)) (key_cmp_exact (key_of schema r) key (equal_of _ e)) ∙ ap is_gt (key_cmp_total.antisymm key k ∙ ap ordering_reverse less)) rows)
 
 -- the row of a lesser key
-row_below : (schema : Schema) (rows : List Row) (k key : Key) (row : Option Row) → IsAt schema k row → key_cmp key k ≡ Less → row_at schema (rows_with schema rows k row) key ≡ row_at schema rows key
+row_below : (schema : Schema) (rows : List Row) (k key : Key) (row : Option Row) → IsAt schema k row → key_cmp key k ≡ Less
+    → row_at schema (rows_with schema rows k row) key ≡ row_at schema rows key
 row_below schema rows k key row at less =
     row_split schema rows k key row
     ∙ joined_none _ _ _ _
@@ -83,7 +86,8 @@ row_below schema rows k key row at less =
     (λ r e. above_fails (key_of schema r) key (key_cmp_total.trans key k (key_of schema r) less (turned (key_of schema r) k (greater_of _ e)))) rows)
 
 -- a row is put at this key, or the row of this key stays
-pub row_stays : (schema : Schema) (rows : List Row) (k key : Key) (row : Option Row) → IsAt schema k row → k ≢ key → row_at schema (rows_with schema rows k row) key ≡ row_at schema rows key
+pub row_stays : (schema : Schema) (rows : List Row) (k key : Key) (row : Option Row) → IsAt schema k row → k ≢ key
+    → row_at schema (rows_with schema rows k row) key ≡ row_at schema rows key
 row_stays schema rows k key row at other =
     let step : (o : Ordering) → o ≡ key_cmp k key → row_at schema (rows_with schema rows k row) key ≡ row_at schema rows key =
     elim [

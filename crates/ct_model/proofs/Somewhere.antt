@@ -35,24 +35,28 @@ some_from_append P (x ∷ xs) ys (inr h) = later (some_from_append P xs ys h)
     later (inl g) = inl (inr g)
     later (inr g) = inr g
 
-pub some_map : {X Y : Type 0} (P : X → Type 0) (Q : Y → Type 0) (f : X → Y) → ((x : X) → P x → Q (f x)) → (xs : List X) → Somewhere P xs → Somewhere Q (map f xs)
+pub some_map : {X Y : Type 0} (P : X → Type 0) (Q : Y → Type 0) (f : X → Y) → ((x : X) → P x → Q (f x)) → (xs : List X) → Somewhere P xs
+    → Somewhere Q (map f xs)
 some_map P Q f keeps [] h = elim h [ ]
 some_map P Q f keeps (x ∷ xs) (inl h) = inl (keeps x h)
 some_map P Q f keeps (x ∷ xs) (inr h) = inr (some_map P Q f keeps xs h)
 
-pub some_from_map : {X Y : Type 0} (P : X → Type 0) (Q : Y → Type 0) (f : X → Y) → ((x : X) → Q (f x) → P x) → (xs : List X) → Somewhere Q (map f xs) → Somewhere P xs
+pub some_from_map : {X Y : Type 0} (P : X → Type 0) (Q : Y → Type 0) (f : X → Y) → ((x : X) → Q (f x) → P x) → (xs : List X)
+    → Somewhere Q (map f xs) → Somewhere P xs
 some_from_map P Q f keeps [] h = elim h [ ]
 some_from_map P Q f keeps (x ∷ xs) (inl h) = inl (keeps x h)
 some_from_map P Q f keeps (x ∷ xs) (inr h) = inr (some_from_map P Q f keeps xs h)
 
 -- a member that passes the test is left
-pub some_filter : {X : Type 0} (P : X → Type 0) (p : X → Bool) → ((x : X) → P x → p x ≡ true) → (xs : List X) → Somewhere P xs → Somewhere P (filter p xs)
+pub some_filter : {X : Type 0} (P : X → Type 0) (p : X → Bool) → ((x : X) → P x → p x ≡ true) → (xs : List X) → Somewhere P xs
+    → Somewhere P (filter p xs)
 some_filter P p passes [] h = elim h [ ]
 some_filter P p passes (x ∷ xs) (inl h) = rw (passes x h) (inl h)
 some_filter P p passes (x ∷ xs) (inr h) =
     elim (p x) as (λ b. Somewhere P (cond b (x ∷ filter p xs) (filter p xs))) [ true ↦ inr (some_filter P p passes xs h) | false ↦ some_filter P p passes xs h ]
 
-pub some_from_filter : {X : Type 0} (P Q : X → Type 0) (p : X → Bool) → ((x : X) → p x ≡ true → P x → Q x) → (xs : List X) → Somewhere P (filter p xs) → Somewhere Q xs
+pub some_from_filter : {X : Type 0} (P Q : X → Type 0) (p : X → Bool) → ((x : X) → p x ≡ true → P x → Q x) → (xs : List X)
+    → Somewhere P (filter p xs) → Somewhere Q xs
 some_from_filter P Q p passed [] h = elim h [ ]
 some_from_filter P Q p passed (x ∷ xs) h =
     let first : P x ⊎ Somewhere P (filter p xs) → p x ≡ true → Q x ⊎ Somewhere Q xs =
@@ -61,19 +65,22 @@ some_from_filter P Q p passed (x ∷ xs) h =
     elim [ true ↦ (λ e g. first g (sym e)) | false ↦ (λ e g. inr (some_from_filter P Q p passed xs g)) ] in
     step (p x) refl h
 
-pub some_flat_map : {X Y : Type 0} (P : X → Type 0) (Q : Y → Type 0) (f : X → List Y) → ((x : X) → P x → Somewhere Q (f x)) → (xs : List X) → Somewhere P xs → Somewhere Q (flat_map f xs)
+pub some_flat_map : {X Y : Type 0} (P : X → Type 0) (Q : Y → Type 0) (f : X → List Y) → ((x : X) → P x → Somewhere Q (f x)) → (xs : List X)
+    → Somewhere P xs → Somewhere Q (flat_map f xs)
 some_flat_map P Q f keeps [] h = elim h [ ]
 some_flat_map P Q f keeps (x ∷ xs) (inl h) = some_append_left Q (f x) (flat_map f xs) (keeps x h)
 some_flat_map P Q f keeps (x ∷ xs) (inr h) = some_append_right Q (f x) (flat_map f xs) (some_flat_map P Q f keeps xs h)
 
-pub some_from_flat_map : {X Y : Type 0} (P : X → Type 0) (Q : Y → Type 0) (f : X → List Y) → ((x : X) → Somewhere Q (f x) → P x) → (xs : List X) → Somewhere Q (flat_map f xs) → Somewhere P xs
+pub some_from_flat_map : {X Y : Type 0} (P : X → Type 0) (Q : Y → Type 0) (f : X → List Y) → ((x : X) → Somewhere Q (f x) → P x)
+    → (xs : List X) → Somewhere Q (flat_map f xs) → Somewhere P xs
 some_from_flat_map P Q f keeps [] h = elim h [ ]
 some_from_flat_map P Q f keeps (x ∷ xs) h =
     let step : Somewhere Q (f x) ⊎ Somewhere Q (flat_map f xs) → Somewhere P (x ∷ xs) =
     elim [ inl g ↦ inl (keeps x g) | inr g ↦ inr (some_from_flat_map P Q f keeps xs g) ] in
     step (some_from_append Q (f x) (flat_map f xs) h)
 
-pub some_filter_map : {X Y : Type 0} (P : X → Type 0) (Q : Y → Type 0) (f : X → Option Y) → ((x : X) → P x → IsSomeAnd (f x) Q) → (xs : List X) → Somewhere P xs → Somewhere Q (filter_map f xs)
+pub some_filter_map : {X Y : Type 0} (P : X → Type 0) (Q : Y → Type 0) (f : X → Option Y) → ((x : X) → P x → IsSomeAnd (f x) Q)
+    → (xs : List X) → Somewhere P xs → Somewhere Q (filter_map f xs)
 some_filter_map P Q f keeps [] h = elim h [ ]
 some_filter_map P Q f keeps (x ∷ xs) (inl h) =
     let step : (o : Option _) → IsSomeAnd o Q → Somewhere Q (cons_option o (filter_map f xs)) = elim [ None ↦ (λ g. elim g [ ]) | Some y ↦ (λ g. inl g) ] in
@@ -81,7 +88,8 @@ some_filter_map P Q f keeps (x ∷ xs) (inl h) =
 some_filter_map P Q f keeps (x ∷ xs) (inr h) =
     elim (f x) as (λ o. Somewhere Q (cons_option o (filter_map f xs))) [ None ↦ some_filter_map P Q f keeps xs h | Some y ↦ inr (some_filter_map P Q f keeps xs h) ]
 
-pub some_from_filter_map : {X Y : Type 0} (P : X → Type 0) (Q : Y → Type 0) (f : X → Option Y) → ((x : X) → IsSomeAnd (f x) Q → P x) → (xs : List X) → Somewhere Q (filter_map f xs) → Somewhere P xs
+pub some_from_filter_map : {X Y : Type 0} (P : X → Type 0) (Q : Y → Type 0) (f : X → Option Y) → ((x : X) → IsSomeAnd (f x) Q → P x)
+    → (xs : List X) → Somewhere Q (filter_map f xs) → Somewhere P xs
 some_from_filter_map P Q f keeps [] h = elim h [ ]
 some_from_filter_map {X} {Y} P Q f keeps (x ∷ xs) h =
     let later = some_from_filter_map P Q f keeps xs in
@@ -89,11 +97,13 @@ some_from_filter_map {X} {Y} P Q f keeps (x ∷ xs) h =
     elim [ None ↦ (λ e g. inr (later g)) | Some y ↦ (λ e g. split y e g later) ] in
     step (f x) refl h
   where
-    split : (y : Y) → Some y ≡ f x → Q y ⊎ Somewhere Q (filter_map f xs) → (Somewhere Q (filter_map f xs) → Somewhere P xs) → P x ⊎ Somewhere P xs
+    split : (y : Y) → Some y ≡ f x → Q y ⊎ Somewhere Q (filter_map f xs) → (Somewhere Q (filter_map f xs) → Somewhere P xs)
+        → P x ⊎ Somewhere P xs
     split y e (inl g) later = inl (keeps x (rw (← e) g))
     split y e (inr g) later = inr (later g)
 
-pub any_from_some : {X : Type 0} (P : X → Type 0) (p : X → Bool) → ((x : X) → P x → p x ≡ true) → (xs : List X) → Somewhere P xs → list_any p xs ≡ true
+pub any_from_some : {X : Type 0} (P : X → Type 0) (p : X → Bool) → ((x : X) → P x → p x ≡ true) → (xs : List X) → Somewhere P xs
+    → list_any p xs ≡ true
 any_from_some P p passes [] h = elim h [ ]
 any_from_some P p passes (x ∷ xs) (inl h) = rw (passes x h) refl
 any_from_some P p passes (x ∷ xs) (inr h) = rw (any_from_some P p passes xs h) (elim (p x) as (λ b. (b || true) ≡ true) [ true ↦ refl | false ↦ refl ])

@@ -25,16 +25,19 @@ found_id tables id table is =
     let found : IsSomeAnd (table_of tables id) (λ t. Unit {0}) = rw is tt in
     (subst (λ o. IsSomeAnd o (λ t. (t.schema.id ≡ id) × Unit {0})) is (found_itself (λ t. Unit {0}) tables id found)).0
 
-within_then : (noted : ℕ) (tracked : Option Tracked) (R : Type 0) → IfSome tracked (λ tracked. tracked.min ≤ noted → R) → IsWithin noted tracked → R
+within_then : (noted : ℕ) (tracked : Option Tracked) (R : Type 0) → IfSome tracked (λ tracked. tracked.min ≤ noted → R)
+    → IsWithin noted tracked → R
 within_then noted None R holds within = elim within [ ]
 within_then noted (Some tracked) R holds within = holds within
 
-then_within : (noted : ℕ) (tracked : Option Tracked) (R : Type 0) → (IsWithin noted tracked → R) → IfSome tracked (λ tracked. tracked.min ≤ noted → R)
+then_within : (noted : ℕ) (tracked : Option Tracked) (R : Type 0) → (IsWithin noted tracked → R)
+    → IfSome tracked (λ tracked. tracked.min ≤ noted → R)
 then_within noted None R holds = tt
 then_within noted (Some tracked) R holds = holds
 
 -- a key at which the copy and the rows differed has a kept change above the noted version
-old_change : (db : Db) (id noted : ℕ) (copied : List Row) (table : Table) (key : Key) → Agrees db id noted copied → table_of db.tables id ≡ Some table → IsWithin noted table.tracked → Differ table copied key
+old_change : (db : Db) (id noted : ℕ) (copied : List Row) (table : Table) (key : Key) → Agrees db id noted copied
+    → table_of db.tables id ≡ Some table → IsWithin noted table.tracked → Differ table copied key
     → Somewhere (HasAbove id noted key) db.kept
 old_change db id noted copied table key agrees is within differ =
     let same = found_id db.tables id table is in
@@ -43,8 +46,10 @@ old_change db id noted copied table key agrees is within differ =
     subst (λ n. Somewhere (HasAbove n noted key) db.kept) same (net_tells db table.schema.id noted table key here within contains)
 
 -- a key at which the copy and the rows differ after the entry has one too
-new_change : (db : Db) (entry : Entry) (id noted : ℕ) (copied : List Row) (before after : Table) (key : Key) → Applies db entry → Agrees db id noted copied → table_of db.tables id ≡ Some before
-    → table_of (apply db entry).tables id ≡ Some after → IsWithin noted after.tracked → Moves noted (changes_of entry.act) before after → Differ after copied key → Somewhere (HasAbove id noted key) (apply db entry).kept
+new_change : (db : Db) (entry : Entry) (id noted : ℕ) (copied : List Row) (before after : Table) (key : Key) → Applies db entry
+    → Agrees db id noted copied → table_of db.tables id ≡ Some before → table_of (apply db entry).tables id ≡ Some after
+    → IsWithin noted after.tracked → Moves noted (changes_of entry.act) before after → Differ after copied key
+    → Somewhere (HasAbove id noted key) (apply db entry).kept
 unfolding apply
 new_change db entry id noted copied before after key applies agrees was is within moves differ =
     trim_has (apply db entry).tables id noted key after _ is within

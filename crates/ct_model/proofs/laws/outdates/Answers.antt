@@ -18,22 +18,27 @@ use Rattle.ct_model.proofs.laws.outdates.Goals as goal
 abbrev HasMin : ℕ → Table → Type 0
 HasMin min table = option_map (λ tracked. tracked.min) table.tracked ≡ Some min
 
-minimum_is : (min : ℕ) (o : Option Table) → IsSomeAnd o (HasMin min) → option_and_then (λ table. option_map (λ tracked. tracked.min) table.tracked) o ≡ Some min
+minimum_is : (min : ℕ) (o : Option Table) → IsSomeAnd o (HasMin min)
+    → option_and_then (λ table. option_map (λ tracked. tracked.min) table.tracked) o ≡ Some min
 minimum_is min None found = elim found [ ]
 minimum_is min (Some table) has = has
 
-with_min_has : (min : ℕ) (draws : Bool) (tracked : Option Tracked) → draws ≡ true → draws ≡ is_some tracked → option_map (λ t. t.min) (cond draws (with_min min tracked) tracked) ≡ Some min
+with_min_has : (min : ℕ) (draws : Bool) (tracked : Option Tracked) → draws ≡ true → draws ≡ is_some tracked
+    → option_map (λ t. t.min) (cond draws (with_min min tracked) tracked) ≡ Some min
 with_min_has min true (Some tracked) drawn is = refl
 with_min_has min true None drawn is = cc
 with_min_has min false tracked drawn is = cc
 
-truncated_has : (id version : ℕ) (draws : Bool) (t : Table) → draws ≡ true → t.schema.id ≡ id → draws ≡ is_some t.tracked → HasMin version (truncated id version draws t)
+truncated_has : (id version : ℕ) (draws : Bool) (t : Table) → draws ≡ true → t.schema.id ≡ id → draws ≡ is_some t.tracked
+    → HasMin version (truncated id version draws t)
 truncated_has id version draws t drawn same is = rw (eq-eqb t.schema.id id same) (with_min_has version draws t.tracked drawn is)
 
-enabled_has : (id version : ℕ) (masks : Bool) (t : Table) → t.schema.id ≡ id → HasMin version (tracked_as id (Some (record { min = version; masks = masks })) t)
+enabled_has : (id version : ℕ) (masks : Bool) (t : Table) → t.schema.id ≡ id
+    → HasMin version (tracked_as id (Some (record { min = version; masks = masks })) t)
 enabled_has id version masks t same = rw (eq-eqb t.schema.id id same) refl
 
-has_version : (db : Db) (version id : ℕ) (draws : Bool) (act : Act) → ActApplies db version draws act → draws ≡ true → StartsAnew act id → IsSomeAnd (table_of (tables_after act version draws db.tables) id) (HasMin version)
+has_version : (db : Db) (version id : ℕ) (draws : Bool) (act : Act) → ActApplies db version draws act → draws ≡ true → StartsAnew act id
+    → IsSomeAnd (table_of (tables_after act version draws db.tables) id) (HasMin version)
 has_version db version id draws (Truncate of) applies drawn starts =
     rw (← starts) (found_map _ (HasMin version) (truncated of version draws) (truncation_keeps of version draws).schema (λ t both. truncated_has of version draws t drawn both.0 both.1) db.tables of
     (found_itself (λ t. draws ≡ is_some t.tracked) db.tables of applies))

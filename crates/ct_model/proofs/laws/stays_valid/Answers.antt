@@ -27,7 +27,8 @@ xdes_within db (Database keep) xdes new = new.1
 xdes_within db (Raise minima) xdes e = omega (arith, e)
 
 -- only an act with a transaction number of its own draws
-new_xdes : (db : Db) (version xdes : ℕ) (draws : Bool) (act : Act) → ActApplies db version draws act → XdesApplies db act xdes → draws ≡ true → IsNewXdes db xdes
+new_xdes : (db : Db) (version xdes : ℕ) (draws : Bool) (act : Act) → ActApplies db version draws act → XdesApplies db act xdes
+    → draws ≡ true → IsNewXdes db xdes
 new_xdes db version xdes draws (Commit writes) applies new drawn = new
 new_xdes db version xdes draws (Define schema) applies new drawn = new
 new_xdes db version xdes draws (Truncate id) applies new drawn = new
@@ -36,7 +37,8 @@ new_xdes db version xdes draws (Disable id) applies new drawn = new
 new_xdes db version xdes draws (Database keep) applies new drawn = new
 new_xdes db version xdes draws (Raise minima) applies new drawn = let none : draws ≡ false = applies.3 in cc
 
-keep_stays : (db : Db) (version : ℕ) (draws : Bool) (act : Act) → ActApplies db version draws act → IsKeepValid db.keep → IsKeepValid (keep_after act db.keep)
+keep_stays : (db : Db) (version : ℕ) (draws : Bool) (act : Act) → ActApplies db version draws act → IsKeepValid db.keep
+    → IsKeepValid (keep_after act db.keep)
 keep_stays db version draws (Commit writes) applies valid = valid
 keep_stays db version draws (Define schema) applies valid = valid
 keep_stays db version draws (Truncate id) applies valid = valid
