@@ -54,8 +54,8 @@ trim_ordered tables kept ordered =
 
 -- a commit that was kept and valid goes on
 
-pub still_carried : (old new : Db) → old.version ≤ new.version → old.last_xdes ≤ new.last_xdes → old.time ≤ new.time → ChangesCarry new.version old.tables new.tables → AreNumbered 1 new.tables
-    → (kept : Kept) → IsKeptValid old kept → IsCarried new kept
+pub still_carried : (old new : Db) → old.version ≤ new.version → old.last_xdes ≤ new.last_xdes → old.time ≤ new.time
+    → ChangesCarry new.version old.tables new.tables → AreNumbered 1 new.tables → (kept : Kept) → IsKeptValid old kept → IsCarried new kept
 still_carried old new version xdes time carry numbered kept valid =
     let before : kept.version ≤ old.version = valid.version in
     let least : kept.version ≤ new.version = omega arith in
@@ -74,7 +74,8 @@ pub record WriteCarries (write : Write) (table : Table) : Type 0 where
   pub mask : MaskFits table write.op write.mask
   pub context : write.tracked ≡ true → ContextFits write.context
 
-write_carries : (version : ℕ) (keep : Option Keep) (write : Write) (t : Table) → IsTableValid version keep t → WriteFits write t → WriteCarries write t
+write_carries : (version : ℕ) (keep : Option Keep) (write : Write) (t : Table) → IsTableValid version keep t → WriteFits write t
+    → WriteCarries write t
 write_carries version keep write t valid fits = record {
   key = write_key_fits t.schema t.rows write.op write.key write.row valid.rows fits.present fits.row;
   mask = fits.mask;
@@ -88,7 +89,8 @@ carries_on write writes t carries = record {
   context = carries.context;
 }
 
-writes_carry : (version : ℕ) (keep : Option Keep) (writes : List Write) (tables : List Table) → AreNumbered 1 tables → WritesApply tables writes → AllByRecursion (IsTableValid version keep) tables
+writes_carry : (version : ℕ) (keep : Option Keep) (writes : List Write) (tables : List Table) → AreNumbered 1 tables
+    → WritesApply tables writes → AllByRecursion (IsTableValid version keep) tables
     → AllByRecursion (λ write. IsSomeAnd (table_of (fold (λ tables write. map (written write) tables) tables writes) write.table) (WriteCarries write)) writes
 writes_carry version keep [] tables numbered apply all = tt
 writes_carry version keep (write ∷ writes) tables numbered apply all =
@@ -98,13 +100,15 @@ writes_carry version keep (write ∷ writes) tables numbered apply all =
       writes_carry version keep writes (map (written write) tables) (numbered_map (written write) (written_schema write) 1 tables numbered) apply.1 (write_keeps version keep write tables numbered apply.0 all),
     )
 
-change_valid : (version : ℕ) (tables : List Table) (write : Write) → AreNumbered 1 tables → write.tracked ≡ true → IsSomeAnd (table_of tables write.table) (WriteCarries write) → IsValidIfStays tables version (change_of write)
+change_valid : (version : ℕ) (tables : List Table) (write : Write) → AreNumbered 1 tables → write.tracked ≡ true
+    → IsSomeAnd (table_of tables write.table) (WriteCarries write) → IsValidIfStays tables version (change_of write)
 change_valid version tables write numbered tracked found stays =
     some_and_both _ (WriteCarries write) (ChangeFits version (change_of write)) (λ t above carries. record { above = above; key = carries.key; mask = carries.mask; context = carries.context tracked }) _
     (stays_above version (change_of write) 1 tables numbered stays) found
 
 -- the changes that an entry adds are valid where they stay
-pub added_valid : (db : Db) (version : ℕ) (draws : Bool) (act : Act) → ActApplies db version draws act → AreNumbered 1 db.tables → AreNumbered 1 (tables_after act version draws db.tables) → AllByRecursion (IsTableValid db.version db.keep) db.tables
+pub added_valid : (db : Db) (version : ℕ) (draws : Bool) (act : Act) → ActApplies db version draws act → AreNumbered 1 db.tables
+    → AreNumbered 1 (tables_after act version draws db.tables) → AllByRecursion (IsTableValid db.version db.keep) db.tables
     → AllByRecursion (IsValidIfStays (tables_after act version draws db.tables) version) (changes_of act)
 added_valid db version draws (Commit writes) applies numbered after all =
     all_map (λ write. (write.tracked ≡ true) × IsSomeAnd (table_of (tables_after (Commit writes) version draws db.tables) write.table) (WriteCarries write)) _ change_of

@@ -28,20 +28,23 @@ HoldTogether None (Some value) = ⊥
 HoldTogether (Some column) None = ⊥
 HoldTogether (Some column) (Some value) = Holds column value
 
-hold_at : (columns : List Column) (values : List Value) → AllHold columns values → (i : ℕ) → HoldTogether (slice_get columns i) (slice_get values i)
+hold_at : (columns : List Column) (values : List Value) → AllHold columns values → (i : ℕ)
+    → HoldTogether (slice_get columns i) (slice_get values i)
 hold_at [] [] hold i = tt
 hold_at [] (value ∷ values) hold i = elim hold [ ]
 hold_at (column ∷ columns) [] hold i = elim hold [ ]
 hold_at (column ∷ columns) (value ∷ values) hold zero = hold.0
 hold_at (column ∷ columns) (value ∷ values) hold (suc i) = hold_at columns values hold.1 i
 
-cons_hold : (column : Option Column) (value : Option Value) (columns : List Column) (values : List Value) → HoldTogether column value → AllHold columns values → AllHold (cons_option column columns) (cons_option value values)
+cons_hold : (column : Option Column) (value : Option Value) (columns : List Column) (values : List Value) → HoldTogether column value
+    → AllHold columns values → AllHold (cons_option column columns) (cons_option value values)
 cons_hold None None columns values one more = more
 cons_hold None (Some value) columns values one more = elim one [ ]
 cons_hold (Some column) None columns values one more = elim one [ ]
 cons_hold (Some column) (Some value) columns values one more = (one, more)
 
-picked_hold : (columns : List Column) (values : List Value) → AllHold columns values → (ids : List ℕ) → AllHold (filter_map (λ id. slice_get columns (id - 1)) ids) (filter_map (λ id. slice_get values (id - 1)) ids)
+picked_hold : (columns : List Column) (values : List Value) → AllHold columns values → (ids : List ℕ)
+    → AllHold (filter_map (λ id. slice_get columns (id - 1)) ids) (filter_map (λ id. slice_get values (id - 1)) ids)
 picked_hold columns values hold [] = tt
 picked_hold columns values hold (id ∷ ids) =
     cons_hold (slice_get columns (id - 1)) (slice_get values (id - 1)) _ _ (hold_at columns values hold (id - 1)) (picked_hold columns values hold ids)
@@ -50,13 +53,14 @@ picked_hold columns values hold (id ∷ ids) =
 pub key_of_fits : (schema : Schema) (row : Row) → RowFits schema row → KeyFits schema (key_of schema row)
 key_of_fits schema row fits = picked_hold schema.columns row.0 fits schema.key
 
-equal_of : (o : Ordering) → is_eq o ≡ true → o ≡ Equal
+pub equal_of : (o : Ordering) → is_eq o ≡ true → o ≡ Equal
 equal_of Less e = cc
 equal_of Equal e = refl
 equal_of Greater e = cc
 
 -- a key that is present among rows that fit is one that fits
-present_fits : (schema : Schema) (rows : List Row) (key : Key) → AllByRecursion (RowFits schema) rows → has_row schema rows key ≡ true → KeyFits schema key
+present_fits : (schema : Schema) (rows : List Row) (key : Key) → AllByRecursion (RowFits schema) rows → has_row schema rows key ≡ true
+    → KeyFits schema key
 present_fits schema [] key fit present = cc
 present_fits schema (row ∷ rows) key fit present =
     let step : (b : Bool) → b ≡ has_that_key schema key row → (b || has_row schema rows key) ≡ true → KeyFits schema key =
@@ -66,13 +70,15 @@ present_fits schema (row ∷ rows) key fit present =
     ] in
     step (has_that_key schema key row) refl present
 
-pub write_key_fits : (schema : Schema) (rows : List Row) (op : Op) (key : Key) (row : Option Row) → AllByRecursion (RowFits schema) rows → has_row schema rows key ≡ is_present_before op → RowIsOf schema op key row → KeyFits schema key
+pub write_key_fits : (schema : Schema) (rows : List Row) (op : Op) (key : Key) (row : Option Row) → AllByRecursion (RowFits schema) rows
+    → has_row schema rows key ≡ is_present_before op → RowIsOf schema op key row → KeyFits schema key
 write_key_fits schema rows Insert key None fit present is = elim is [ ]
 write_key_fits schema rows Insert key (Some row) fit present is = subst (KeyFits schema) is.1 (key_of_fits schema row is.0)
 write_key_fits schema rows Update key row fit present is = present_fits schema rows key fit present
 write_key_fits schema rows Delete key row fit present is = present_fits schema rows key fit present
 
-pub written_row : (schema : Schema) (op : Op) (key : Key) (row : Option Row) → RowIsOf schema op key row → AllByRecursion (λ r. RowFits schema r × (key_of schema r ≡ key)) (option_to_list row)
+pub written_row : (schema : Schema) (op : Op) (key : Key) (row : Option Row) → RowIsOf schema op key row
+    → AllByRecursion (λ r. RowFits schema r × (key_of schema r ≡ key)) (option_to_list row)
 written_row schema Insert key None is = elim is [ ]
 written_row schema Insert key (Some row) is = (is, tt)
 written_row schema Update key None is = elim is [ ]
@@ -81,7 +87,8 @@ written_row schema Delete key None is = tt
 written_row schema Delete key (Some row) is = elim is [ ]
 
 -- whether a mask fits depends on the schema and on whether there are masks
-pub mask_fits_on : (a b : Table) (op : Op) (mask : ℕ) → b.schema ≡ a.schema → has_masks b.tracked ≡ has_masks a.tracked → MaskFits a op mask → MaskFits b op mask
+pub mask_fits_on : (a b : Table) (op : Op) (mask : ℕ) → b.schema ≡ a.schema → has_masks b.tracked ≡ has_masks a.tracked → MaskFits a op mask
+    → MaskFits b op mask
 mask_fits_on a b Insert mask same masks fits = fits
 mask_fits_on a b Update mask same masks fits =
     rw (same, masks) fits

@@ -43,15 +43,18 @@ pub record KeepsTable (version : ℕ) (f : Table → Table) : Type 0 where
   pub schema : (t : Table) → (f t).schema ≡ t.schema
   pub masks : (v : ℕ) (t : Table) → v ≤ version → is_above v (f t).tracked ≡ true → has_masks (f t).tracked ≡ has_masks t.tracked
 
-pub numbered_map : (f : Table → Table) → ((t : Table) → (f t).schema ≡ t.schema) → (first : ℕ) (tables : List Table) → AreNumbered first tables → AreNumbered first (map f tables)
+pub numbered_map : (f : Table → Table) → ((t : Table) → (f t).schema ≡ t.schema) → (first : ℕ) (tables : List Table)
+    → AreNumbered first tables → AreNumbered first (map f tables)
 numbered_map f same first [] numbered = tt
 numbered_map f same first (t ∷ ts) numbered = (ap (λ s. s.id) (same t) ∙ numbered.0, numbered_map f same (first + 1) ts numbered.1)
 
-names_map : (f : Table → Table) → ((t : Table) → (f t).schema ≡ t.schema) → (tables : List Table) → names_of (map f tables) ≡ names_of tables
+names_map : (f : Table → Table) → ((t : Table) → (f t).schema ≡ t.schema) → (tables : List Table)
+    → names_of (map f tables) ≡ names_of tables
 names_map f same [] = refl
 names_map f same (t ∷ ts) = cc (ap (λ s. folded s.name) (same t), names_map f same ts)
 
-carry_one : (version v : ℕ) (f : Table → Table) (change : Change) (t : Table) → KeepsTable version f → v ≤ version → ChangeFits v change t → is_above v (f t).tracked ≡ true → ChangeFits v change (f t)
+carry_one : (version v : ℕ) (f : Table → Table) (change : Change) (t : Table) → KeepsTable version f → v ≤ version → ChangeFits v change t
+    → is_above v (f t).tracked ≡ true → ChangeFits v change (f t)
 carry_one version v f change t keeps le fits above = record {
   above = above;
   key = rw (keeps.schema t) fits.key;
@@ -59,8 +62,8 @@ carry_one version v f change t keeps le fits above = record {
   context = fits.context;
 }
 
-mapped_follow : (version : ℕ) (f : Table → Table) → KeepsTable version f → (tables : List Table) → length tables ≤ 256 → AreNumbered 1 tables → EachToLater (λ a b. a ≢ b) (names_of tables)
-    → TablesFollow version tables (map f tables)
+mapped_follow : (version : ℕ) (f : Table → Table) → KeepsTable version f → (tables : List Table) → length tables ≤ 256
+    → AreNumbered 1 tables → EachToLater (λ a b. a ≢ b) (names_of tables) → TablesFollow version tables (map f tables)
 mapped_follow version f keeps tables few numbered names = record {
   few = rw (length-map tables f) few;
   numbered = numbered_map f keeps.schema 1 tables numbered;
@@ -74,7 +77,7 @@ pub written_schema : (write : Write) (t : Table) → (written write t).schema �
 written_schema write t =
     elim (eqb t.schema.id write.table) as (λ b. (cond b (record t { rows = rows_with t.schema t.rows write.key write.row }) t).schema ≡ t.schema) [ true ↦ refl | false ↦ refl ]
 
-written_tracked : (write : Write) (t : Table) → (written write t).tracked ≡ t.tracked
+pub written_tracked : (write : Write) (t : Table) → (written write t).tracked ≡ t.tracked
 written_tracked write t =
     elim (eqb t.schema.id write.table) as (λ b. (cond b (record t { rows = rows_with t.schema t.rows write.key write.row }) t).tracked ≡ t.tracked) [ true ↦ refl | false ↦ refl ]
 
@@ -95,7 +98,8 @@ map_twice g f [] = refl
 map_twice g f (x ∷ xs) = ap (λ rest. g (f x) ∷ rest) (map_twice g f xs)
 
 -- changes of all tables, one after the other, change each table by one after the other
-pub fold_of_maps : {A X : Type 0} (g : A → X → X) (steps : List A) (xs : List X) → fold (λ ys step. map (g step) ys) xs steps ≡ map (λ x. fold (λ y step. g step y) x steps) xs
+pub fold_of_maps : {A X : Type 0} (g : A → X → X) (steps : List A) (xs : List X)
+    → fold (λ ys step. map (g step) ys) xs steps ≡ map (λ x. fold (λ y step. g step y) x steps) xs
 fold_of_maps g [] xs = sym (map-id xs)
 fold_of_maps g (step ∷ steps) xs = fold_of_maps g steps (map (g step) xs) ∙ map_twice (λ x. fold (λ y step. g step y) x steps) (g step) xs
 
@@ -111,7 +115,7 @@ with_min_masks : (min : ℕ) (tracked : Option Tracked) → has_masks (with_min 
 with_min_masks min None = refl
 with_min_masks min (Some tracked) = refl
 
-raised_schema : (listed : Min) (t : Table) → (raised listed t).schema ≡ t.schema
+pub raised_schema : (listed : Min) (t : Table) → (raised listed t).schema ≡ t.schema
 raised_schema listed t =
     elim (eqb t.schema.id listed.table) as (λ b. (cond b (record t { tracked = with_min listed.min t.tracked }) t).schema ≡ t.schema) [ true ↦ refl | false ↦ refl ]
 
@@ -120,10 +124,10 @@ raised_masks listed t =
     elim (eqb t.schema.id listed.table) as (λ b. has_masks (cond b (record t { tracked = with_min listed.min t.tracked }) t).tracked ≡ has_masks t.tracked)
     [ true ↦ with_min_masks listed.min t.tracked | false ↦ refl ]
 
-abbrev after_raises : List Min → Table → Table
+abbrev pub after_raises : List Min → Table → Table
 after_raises minima table = fold (λ t listed. raised listed t) table minima
 
-after_raises_schema : (minima : List Min) (t : Table) → (after_raises minima t).schema ≡ t.schema
+pub after_raises_schema : (minima : List Min) (t : Table) → (after_raises minima t).schema ≡ t.schema
 after_raises_schema [] t = refl
 after_raises_schema (listed ∷ minima) t = after_raises_schema minima (raised listed t) ∙ raised_schema listed t
 
@@ -136,11 +140,12 @@ raises_keep version minima = record { schema = after_raises_schema minima; masks
 
 -- a truncation
 
-choose_masks : (draws : Bool) (version : ℕ) (tracked : Option Tracked) → has_masks (cond draws (with_min version tracked) tracked) ≡ has_masks tracked
+choose_masks : (draws : Bool) (version : ℕ) (tracked : Option Tracked)
+    → has_masks (cond draws (with_min version tracked) tracked) ≡ has_masks tracked
 choose_masks true version tracked = with_min_masks version tracked
 choose_masks false version tracked = refl
 
-truncation_keeps : (id version : ℕ) (draws : Bool) → KeepsTable version (truncated id version draws)
+pub truncation_keeps : (id version : ℕ) (draws : Bool) → KeepsTable version (truncated id version draws)
 truncation_keeps id version draws = record {
   schema = λ t. elim (eqb t.schema.id id) as (λ b. (cond b (record t { rows = []; tracked = cond draws (with_min version t.tracked) t.tracked }) t).schema ≡ t.schema) [ true ↦ refl | false ↦ refl ];
   masks = λ v t le above.
@@ -156,9 +161,12 @@ none_above version v le = grind (arith, nat_tests)
 abbrev HasNoneAbove : ℕ → Option Tracked → Type 0
 HasNoneAbove version tracked = (v : ℕ) → v ≤ version → is_above v tracked ≡ false
 
+pub tracked_as_schema : (id : ℕ) (tracked : Option Tracked) (t : Table) → (tracked_as id tracked t).schema ≡ t.schema
+tracked_as_schema id tracked t = elim (eqb t.schema.id id) as (λ b. (cond b (record t { tracked = tracked }) t).schema ≡ t.schema) [ true ↦ refl | false ↦ refl ]
+
 tracking_keeps : (id version : ℕ) (tracked : Option Tracked) → HasNoneAbove version tracked → KeepsTable version (tracked_as id tracked)
 tracking_keeps id version tracked none = record {
-  schema = λ t. elim (eqb t.schema.id id) as (λ b. (cond b (record t { tracked = tracked }) t).schema ≡ t.schema) [ true ↦ refl | false ↦ refl ];
+  schema = tracked_as_schema id tracked;
   masks = λ v t le above.
       let step : (b : Bool) → is_above v (cond b (record t { tracked = tracked }) t).tracked ≡ true → has_masks (cond b (record t { tracked = tracked }) t).tracked ≡ has_masks t.tracked =
       elim [ true ↦ (λ a. cc (none v le, a)) | false ↦ (λ a. refl) ] in
@@ -167,7 +175,8 @@ tracking_keeps id version tracked none = record {
 
 -- a definition
 
-numbered_append : (first : ℕ) (tables : List Table) (t : Table) → AreNumbered first tables → t.schema.id ≡ first + length tables → AreNumbered first (tables ++ t ∷ [])
+numbered_append : (first : ℕ) (tables : List Table) (t : Table) → AreNumbered first tables → t.schema.id ≡ first + length tables
+    → AreNumbered first (tables ++ t ∷ [])
 numbered_append first [] t numbered is = (omega (arith, is), tt)
 numbered_append first (other ∷ tables) t numbered is = (numbered.0, numbered_append (first + 1) tables t numbered.1 (omega (arith, is)))
 
@@ -175,7 +184,8 @@ names_append : (tables : List Table) (t : Table) → names_of (tables ++ t ∷ [
 names_append [] t = refl
 names_append (other ∷ tables) t = ap (λ rest. folded other.schema.name ∷ rest) (names_append tables t)
 
-defined_follow : (version : ℕ) (schema : Schema) (tables : List Table) → IsNewSchema tables schema → AreNumbered 1 tables → EachToLater (λ a b. a ≢ b) (names_of tables)
+defined_follow : (version : ℕ) (schema : Schema) (tables : List Table) → IsNewSchema tables schema → AreNumbered 1 tables
+    → EachToLater (λ a b. a ≢ b) (names_of tables)
     → TablesFollow version tables (tables ++ record { schema = schema; rows = []; tracked = None } ∷ [])
 defined_follow version schema tables new numbered names = record {
   few = omega (arith, new.room, length-append tables (record { schema = schema; rows = []; tracked = None } ∷ []));
@@ -185,7 +195,8 @@ defined_follow version schema tables new numbered names = record {
   carry = λ v change le fits. some_and_weaken (ChangeFits v change) _ (λ t fits above. fits) _ (found_append (ChangeFits v change) tables _ change.table fits);
 }
 
-pub tables_follow : (db : Db) (version : ℕ) (draws : Bool) (act : Act) → ActApplies db version draws act → length db.tables ≤ 256 → AreNumbered 1 db.tables → EachToLater (λ a b. a ≢ b) (names_of db.tables)
+pub tables_follow : (db : Db) (version : ℕ) (draws : Bool) (act : Act) → ActApplies db version draws act → length db.tables ≤ 256
+    → AreNumbered 1 db.tables → EachToLater (λ a b. a ≢ b) (names_of db.tables)
     → TablesFollow version db.tables (tables_after act version draws db.tables)
 tables_follow db version draws (Commit writes) applies few numbered names =
     rw (fold_of_maps written writes db.tables) (mapped_follow version (after_writes writes) (writes_keep version writes) db.tables few numbered names)

@@ -12,12 +12,14 @@ pub some_and_weaken : {X : Type 0} (P Q : X → Type 0) → ((x : X) → P x →
 some_and_weaken P Q weaken None h = h
 some_and_weaken P Q weaken (Some x) h = weaken x h
 
-pub some_and_both : {X : Type 0} (P Q R : X → Type 0) → ((x : X) → P x → Q x → R x) → (o : Option X) → IsSomeAnd o P → IsSomeAnd o Q → IsSomeAnd o R
+pub some_and_both : {X : Type 0} (P Q R : X → Type 0) → ((x : X) → P x → Q x → R x) → (o : Option X) → IsSomeAnd o P → IsSomeAnd o Q
+    → IsSomeAnd o R
 some_and_both P Q R join None p q = p
 some_and_both P Q R join (Some x) p q = join x p q
 
 -- what holds of a table that is found among those of which each has a fact
-pub found_has : (P Q R : Table → Type 0) → ((t : Table) → P t → Q t → R t) → (tables : List Table) (id : ℕ) → AllByRecursion P tables → IsSomeAnd (table_of tables id) Q → IsSomeAnd (table_of tables id) R
+pub found_has : (P Q R : Table → Type 0) → ((t : Table) → P t → Q t → R t) → (tables : List Table) (id : ℕ) → AllByRecursion P tables
+    → IsSomeAnd (table_of tables id) Q → IsSomeAnd (table_of tables id) R
 found_has P Q R join [] id all found = found
 found_has P Q R join (t ∷ ts) id all found =
     let step : (b : Bool) → IsSomeAnd (cond b (Some t) (table_of ts id)) Q → IsSomeAnd (cond b (Some t) (table_of ts id)) R =
@@ -25,8 +27,8 @@ found_has P Q R join (t ∷ ts) id all found =
     step (eqb t.schema.id id) found
 
 -- a change that keeps the schemas keeps what is found
-pub found_map : (P Q : Table → Type 0) (f : Table → Table) → ((t : Table) → (f t).schema ≡ t.schema) → ((t : Table) → P t → Q (f t)) → (tables : List Table) (id : ℕ)
-    → IsSomeAnd (table_of tables id) P → IsSomeAnd (table_of (map f tables) id) Q
+pub found_map : (P Q : Table → Type 0) (f : Table → Table) → ((t : Table) → (f t).schema ≡ t.schema) → ((t : Table) → P t → Q (f t))
+    → (tables : List Table) (id : ℕ) → IsSomeAnd (table_of tables id) P → IsSomeAnd (table_of (map f tables) id) Q
 found_map P Q f same keeps [] id found = found
 found_map P Q f same keeps (t ∷ ts) id found =
     let step : (b : Bool) → IsSomeAnd (cond b (Some t) (table_of ts id)) P → IsSomeAnd (cond b (Some (f t)) (table_of (map f ts) id)) Q =
@@ -34,7 +36,8 @@ found_map P Q f same keeps (t ∷ ts) id found =
     subst (λ s. IsSomeAnd (cond (eqb s.id id) (Some (f t)) (table_of (map f ts) id)) Q) (sym (same t)) (step (eqb t.schema.id id) found)
 
 -- what is found is found in more tables too
-pub found_append : (P : Table → Type 0) (tables more : List Table) (id : ℕ) → IsSomeAnd (table_of tables id) P → IsSomeAnd (table_of (tables ++ more) id) P
+pub found_append : (P : Table → Type 0) (tables more : List Table) (id : ℕ) → IsSomeAnd (table_of tables id) P
+    → IsSomeAnd (table_of (tables ++ more) id) P
 found_append P [] more id found = elim found [ ]
 found_append P (t ∷ ts) more id found =
     let step : (b : Bool) → IsSomeAnd (cond b (Some t) (table_of ts id)) P → IsSomeAnd (cond b (Some t) (table_of (ts ++ more) id)) P =
@@ -42,7 +45,8 @@ found_append P (t ∷ ts) more id found =
     step (eqb t.schema.id id) found
 
 -- no table that is numbered later has an earlier id
-none_earlier : (version : ℕ) (change : Change) (first : ℕ) (tables : List Table) → AreNumbered first tables → change.table < first → change_stays tables version change ≡ false
+none_earlier : (version : ℕ) (change : Change) (first : ℕ) (tables : List Table) → AreNumbered first tables → change.table < first
+    → change_stays tables version change ≡ false
 none_earlier version change first [] numbered lt = refl
 none_earlier version change first (t ∷ ts) numbered lt =
     let step : (b : Bool) → b ≡ eqb t.schema.id change.table → (b && is_above version t.tracked || change_stays ts version change) ≡ false =
@@ -53,8 +57,8 @@ none_earlier version change first (t ∷ ts) numbered lt =
     step (eqb t.schema.id change.table) refl
 
 -- a change that stays is of a table that is found by its id, and its version is above that table's minimum
-pub stays_above : (version : ℕ) (change : Change) (first : ℕ) (tables : List Table) → AreNumbered first tables → change_stays tables version change ≡ true
-    → IsSomeAnd (table_of tables change.table) (λ t. is_above version t.tracked ≡ true)
+pub stays_above : (version : ℕ) (change : Change) (first : ℕ) (tables : List Table) → AreNumbered first tables
+    → change_stays tables version change ≡ true → IsSomeAnd (table_of tables change.table) (λ t. is_above version t.tracked ≡ true)
 stays_above version change first [] numbered stays = cc
 stays_above version change first (t ∷ ts) numbered stays =
     let above = is_above version t.tracked in
@@ -68,3 +72,12 @@ stays_above version change first (t ∷ ts) numbered stays =
     here : (a later : Bool) → later ≡ false → (a || later) ≡ true → a ≡ true
     here true later none e = refl
     here false later none e = cc
+
+-- what is found by an id has it
+pub found_itself : (P : Table → Type 0) (tables : List Table) (id : ℕ) → IsSomeAnd (table_of tables id) P
+    → IsSomeAnd (table_of tables id) (λ t. (t.schema.id ≡ id) × P t)
+found_itself P [] id found = found
+found_itself P (t ∷ ts) id found =
+    let step : (b : Bool) → b ≡ eqb t.schema.id id → IsSomeAnd (cond b (Some t) (table_of ts id)) P → IsSomeAnd (cond b (Some t) (table_of ts id)) (λ t. (t.schema.id ≡ id) × P t) =
+    elim [ true ↦ (λ e p. (eqb-true _ _ (sym e), p)) | false ↦ (λ e p. found_itself P ts id p) ] in
+    step (eqb t.schema.id id) refl found

@@ -4,4 +4,10 @@ pub mod Following
 pub mod Found
 pub mod Keeping
 pub mod Members
+pub mod Moving
+pub mod NetKeys
+pub mod Rises
 pub mod Rising
+pub mod RowAt
+pub mod Somewhere
+pub mod Staying

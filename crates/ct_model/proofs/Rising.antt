@@ -15,17 +15,17 @@ use Rattle.ct_model.specs.Tables.{key_of, rows_with}
 use Rattle.ct_model.specs.Valid.{AreRising}
 use Rattle.ct_model.proofs.Members.{all_weaken, all_everywhere, all_append, all_filter, each_filter, each_append}
 
-less_of : (o : Ordering) → is_lt o ≡ true → o ≡ Less
+pub less_of : (o : Ordering) → is_lt o ≡ true → o ≡ Less
 less_of Less e = refl
 less_of Equal e = cc
 less_of Greater e = cc
 
-greater_of : (o : Ordering) → is_gt o ≡ true → o ≡ Greater
+pub greater_of : (o : Ordering) → is_gt o ≡ true → o ≡ Greater
 greater_of Less e = cc
 greater_of Equal e = cc
 greater_of Greater e = refl
 
-turned : (a b : Key) → key_cmp a b ≡ Greater → key_cmp b a ≡ Less
+pub turned : (a b : Key) → key_cmp a b ≡ Greater → key_cmp b a ≡ Less
 turned a b e = key_cmp_total.antisymm b a ∙ ap ordering_reverse e
 
 -- a row has this key, where there is one
@@ -36,7 +36,8 @@ one_rises : (schema : Schema) (row : Option Row) → AreRising schema (option_to
 one_rises schema None = tt
 one_rises schema (Some row) = (tt, tt)
 
-pub rows_rise : (schema : Schema) (rows : List Row) (key : Key) (row : Option Row) → AreRising schema rows → IsAt schema key row → AreRising schema (rows_with schema rows key row)
+pub rows_rise : (schema : Schema) (rows : List Row) (key : Key) (row : Option Row) → AreRising schema rows → IsAt schema key row
+    → AreRising schema (rows_with schema rows key row)
 rows_rise schema rows key row rising at =
     let R : Row → Row → Type 0 = (λ a b. key_cmp (key_of schema a) (key_of schema b) ≡ Less) in
     let is_low : Row → Bool = (λ r. is_lt (key_cmp (key_of schema r) key)) in
@@ -57,7 +58,8 @@ rows_rise schema rows key row rising at =
     each_append R (lows ++ mids) highs (each_append R lows mids (each_filter R is_low rows rising) (one_rises schema row) low_mid)
     (each_filter R is_high rows rising) (all_append _ lows mids low_high mid_high)
 
-pub rows_fit : (schema : Schema) (rows : List Row) (key : Key) (row : Option Row) → AllByRecursion (RowFits schema) rows → AllByRecursion (RowFits schema) (option_to_list row) → AllByRecursion (RowFits schema) (rows_with schema rows key row)
+pub rows_fit : (schema : Schema) (rows : List Row) (key : Key) (row : Option Row) → AllByRecursion (RowFits schema) rows
+    → AllByRecursion (RowFits schema) (option_to_list row) → AllByRecursion (RowFits schema) (rows_with schema rows key row)
 rows_fit schema rows key row fit here =
     let lows = filter (λ r. is_lt (key_cmp (key_of schema r) key)) rows in
     let highs = filter (λ r. is_gt (key_cmp (key_of schema r) key)) rows in

@@ -1,6 +1,27 @@
 ghost use Rattle.ct_model.specs.Applies.{StaysValid};
+ghost use Rattle.ct_model.specs.Laws.{NeverLowers, Outdates, GoesOnAgreeing, RowsAgree};
 
 /// An entry that applies leaves a valid database valid.
 pub fn stays_valid()
     ensures { StaysValid }
+{}
+
+/// An entry that applies lowers neither the version nor the time nor the greatest transaction number.
+pub fn never_lowers()
+    ensures { NeverLowers }
+{}
+
+/// A table that is truncated while it is tracked, or that goes tracked, has a minimum above every version before.
+pub fn outdates()
+    ensures { Outdates }
+{}
+
+/// A copy that agrees with a valid database agrees with what an entry that applies makes of it.
+pub fn goes_on_agreeing()
+    ensures { GoesOnAgreeing }
+{}
+
+/// The rows of a table, noted with the version of the database, agree with it.
+pub fn rows_agree()
+    ensures { RowsAgree }
 {}

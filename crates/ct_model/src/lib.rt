@@ -5,4 +5,4 @@ mod db;
 mod laws;
 
 pub use db::{Dated, Db, Table};
-pub use laws::stays_valid;
+pub use laws::{goes_on_agreeing, never_lowers, outdates, rows_agree, stays_valid};

@@ -1,4 +1,4 @@
-use Rattle.std.proofs.Common.{◌≡◌, ◌≤◌, ◌<◌, ◌+◌, ◌^◌, ℕ, Bool, true, false, if◌then◌else◌, List, [], ◌∷◌, ◌++◌, None, Some, arith}
+use Rattle.std.proofs.Common.{◌≡◌, ◌≤◌, ◌<◌, ◌^◌, ℕ, Bool, true, false, if◌then◌else◌, List, [], ◌∷◌, ◌++◌, None, Some, arith}
 use Rattle.std.specs.List.{AllByRecursion}
 use Rattle.std.proofs.Math.Nat.{le-max_left, le-max_right}
 use Rattle.ct_types.specs.declared.entry.Kept.{Kept}
@@ -11,19 +11,11 @@ use Rattle.ct_model.specs.Apply.{apply, kept_of, keep_after, tables_after}
 use Rattle.ct_model.specs.Lists.{EachToLater}
 use Rattle.ct_model.specs.Valid.{IsKeepValid, ComesBefore, IsValid}
 use Rattle.ct_model.proofs.Members.{all_weaken, all_join, all_added, each_added}
+use Rattle.ct_model.proofs.Rises.{version_rises, drawn_rises}
 use Rattle.ct_model.proofs.Following.{TablesFollow, tables_follow}
 use Rattle.ct_model.proofs.Keeping.{tables_keep}
 use Rattle.ct_model.proofs.Carrying.{IsCarried, trim_valid, trim_ordered, still_carried, added_valid}
 use Rattle.ct_model.proofs.laws.stays_valid.Goals as goal
-
--- an entry that draws has the next version, and one that does not the same
-version_rises : (draws : Bool) (old new : ℕ) → new ≡ (if draws then old + 1 else old) → old ≤ new
-version_rises true old new e = omega (arith, e)
-version_rises false old new e = omega (arith, e)
-
-drawn_rises : (draws : Bool) (old new : ℕ) → new ≡ (if draws then old + 1 else old) → draws ≡ true → old < new
-drawn_rises true old new e drawn = omega (arith, e)
-drawn_rises false old new e drawn = cc
 
 xdes_within : (db : Db) (act : Act) (xdes : ℕ) → XdesApplies db act xdes → xdes ≤ 2 ^ 62
 xdes_within db (Commit writes) xdes new = new.1
@@ -35,7 +27,8 @@ xdes_within db (Database keep) xdes new = new.1
 xdes_within db (Raise minima) xdes e = omega (arith, e)
 
 -- only an act with a transaction number of its own draws
-new_xdes : (db : Db) (version xdes : ℕ) (draws : Bool) (act : Act) → ActApplies db version draws act → XdesApplies db act xdes → draws ≡ true → IsNewXdes db xdes
+new_xdes : (db : Db) (version xdes : ℕ) (draws : Bool) (act : Act) → ActApplies db version draws act → XdesApplies db act xdes
+    → draws ≡ true → IsNewXdes db xdes
 new_xdes db version xdes draws (Commit writes) applies new drawn = new
 new_xdes db version xdes draws (Define schema) applies new drawn = new
 new_xdes db version xdes draws (Truncate id) applies new drawn = new
@@ -44,7 +37,8 @@ new_xdes db version xdes draws (Disable id) applies new drawn = new
 new_xdes db version xdes draws (Database keep) applies new drawn = new
 new_xdes db version xdes draws (Raise minima) applies new drawn = let none : draws ≡ false = applies.3 in cc
 
-keep_stays : (db : Db) (version : ℕ) (draws : Bool) (act : Act) → ActApplies db version draws act → IsKeepValid db.keep → IsKeepValid (keep_after act db.keep)
+keep_stays : (db : Db) (version : ℕ) (draws : Bool) (act : Act) → ActApplies db version draws act → IsKeepValid db.keep
+    → IsKeepValid (keep_after act db.keep)
 keep_stays db version draws (Commit writes) applies valid = valid
 keep_stays db version draws (Define schema) applies valid = valid
 keep_stays db version draws (Truncate id) applies valid = valid
