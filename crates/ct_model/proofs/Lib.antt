@@ -1,2 +1,5 @@
+pub mod Dots
+pub mod Each
 pub mod LastOf
 pub mod Pushed
+pub mod SameKey

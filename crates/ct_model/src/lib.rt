@@ -1,14 +1,21 @@
 //! The database as plain lists: what an entry makes of it, when one applies, and its net changes.
 #![tactic(auto)]
 
+mod acts;
+mod applying;
 mod changes;
 mod db;
 mod entries;
+mod holds;
 mod masks;
+mod names;
 mod rows;
+mod schemas;
 mod tables;
 mod trim;
+mod writes;
 
+pub use applying::applies;
 pub use changes::net;
 pub use db::{Dated, Db, Table};
 pub use entries::apply;

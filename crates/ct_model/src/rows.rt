@@ -4,7 +4,7 @@ ghost use Rattle.std.specs.Option.{option_copied, option_to_list};
 ghost use Rattle.std.specs.Ordering.{is_lt, is_gt};
 ghost use Rattle.std.specs.Cmp.Lexicographic.{slice_cmp};
 ghost use Rattle.ct_types.specs.Order.{value_cmp, key_cmp};
-ghost use Rattle.ct_model.specs.Tables.{key_of, rows_with, has_row as has_that_row};
+ghost use Rattle.ct_model.specs.Tables.{key_of, rows_with, has_that_key, has_row as has_that_row};
 
 use ct_types::{Copies, Key, List, Memory, Row, Schema, Value, cmp_value};
 use std::alloc::Global;
@@ -46,12 +46,18 @@ pub fn cmp_row(schema: &Schema, row: &Row, key: &Key) -> Ordering
     cmp_columns(schema.key.as_slice(), row.0.as_slice(), key.0.as_slice())
 }
 
+/// Whether a row has the key.
+pub(crate) fn has_key(schema: &Schema, row: &Row, key: &Key) -> bool
+    ensures { result ≡ has_that_key schema.now key.now row.now }
+{
+    cmp_row(schema, row, key) == Ordering::Equal
+}
+
 /// Whether one of the rows has the key.
 pub fn has_row(schema: &Schema, rows: &[Row], key: &Key) -> bool
     ensures { result ≡ has_that_row schema.now rows.now key.now }
 {
-    rows.iter()
-        .any(|row| cmp_row(schema, row, key) == Ordering::Equal)
+    rows.iter().any(|row| has_key(schema, row, key))
 }
 
 /// Adds the value of a column, if the row has one.
