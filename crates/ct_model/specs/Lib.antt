@@ -1,6 +1,7 @@
 pub mod Agrees
 pub mod Applies
 pub mod Apply
+pub mod Cuts
 pub mod Laws
 pub mod Lists
 pub mod Names
