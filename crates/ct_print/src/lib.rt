@@ -5,6 +5,8 @@ mod journal;
 mod laws;
 mod refusal;
 mod reply;
+#[cfg(test)]
+mod tests;
 mod value;
 
 pub use journal::{print_block, print_journal};
