@@ -1,5 +1,5 @@
 -- Where a name of two parts is cut, and what begins with `sys.`.
-use Rattle.std.proofs.Common.{◌≡◌, ◌≢◌, ◌↔◌, ◌<◌, ◌≤◌, ◌+◌, ℕ, zero, suc, Bool, true, codes, List, [], ◌∷◌, ◌++◌, Some, take, drop, length, map, refl, sym, ap, ◌∙◌, subst, add-one, arith}
+use Rattle.std.proofs.Common.{◌≡◌, ◌↔◌, ◌<◌, ◌≤◌, ◌+◌, ℕ, zero, suc, Bool, true, codes, List, [], ◌∷◌, ◌++◌, Some, take, drop, length, map, refl, sym, ap, ◌∙◌, subst, add-one, arith}
 use Rattle.std.specs.List.{slice_get}
 use Rattle.std.specs.Char.{to_ascii_lowercase}
 use Rattle.ct_model.specs.Cuts.{IsTwoNames, IsCut}

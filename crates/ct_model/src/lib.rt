@@ -13,6 +13,8 @@ mod names;
 mod rows;
 mod schemas;
 mod tables;
+#[cfg(test)]
+mod tests;
 mod trim;
 mod writes;
 

@@ -15,7 +15,7 @@ pub fn find_table(tables: &[Table], id: u32) -> Option<&Table>
     tables.iter().find(|table| table.schema.id == id)
 }
 
-pub(crate) fn write_table(alloc: Global, write: &Write, table: &Table) -> Result<Table, Memory>
+fn write_table(alloc: Global, write: &Write, table: &Table) -> Result<Table, Memory>
     ensures { IfOk result (λ made. made ≡ written write.now table.now) }
 {
     if table.schema.id != write.table {
