@@ -8,7 +8,7 @@ use Rattle.ct_types.specs.declared.entry.Entry.{Entry}
 use Rattle.ct_model.specs.declared.db.Db.{Db}
 use Rattle.ct_model.specs.Agrees.{Agrees}
 use Rattle.ct_model.specs.Applies.{Applies}
-use Rattle.ct_model.specs.Apply.{apply}
+use Rattle.ct_model.specs.Apply.{apply, no_db}
 use Rattle.ct_model.specs.Tables.{table_of}
 use Rattle.ct_model.specs.Valid.{IsValid}
 use Rattle.ct_model.specs.Versions.{minimum}
@@ -43,3 +43,7 @@ GoesOnAgreeing =
 -- the rows of a table, noted with the version of the database, agree with it
 abbrev pub RowsAgree : Type 0
 RowsAgree = (db : Db) (id : ℕ) → IfSome (table_of db.tables id) (λ table. Agrees db id db.version table.rows)
+
+-- the empty database is valid
+abbrev pub EmptyIsValid : Type 0
+EmptyIsValid = IsValid no_db

@@ -1,9 +1,14 @@
 ghost use Rattle.ct_model.specs.Applies.{StaysValid};
-ghost use Rattle.ct_model.specs.Laws.{NeverLowers, Outdates, GoesOnAgreeing, RowsAgree};
+ghost use Rattle.ct_model.specs.Laws.{NeverLowers, Outdates, GoesOnAgreeing, RowsAgree, EmptyIsValid};
 
 /// An entry that applies leaves a valid database valid.
 pub fn stays_valid()
     ensures { StaysValid }
+{}
+
+/// The empty database is valid.
+pub fn empty_is_valid()
+    ensures { EmptyIsValid }
 {}
 
 /// An entry that applies lowers neither the version nor the time nor the greatest transaction number.
