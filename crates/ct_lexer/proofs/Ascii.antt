@@ -1,6 +1,6 @@
 -- Tokens begin and end with ASCII characters.
 use Rattle.std.proofs.Common.{◌≡◌, ℕ, suc, ◌-◌, ◌<◌, ◌≤◌, ◌⊎◌, Bool, true, false, List, [], ◌∷◌, ◌++◌, length, get_or, refl, arith, inl, inr, length-append}
-use Rattle.std.specs.Prelude.{◌==◌, ◌&&◌, ◌||◌, nat_lt, codes}
+use Rattle.std.specs.Prelude.{◌==◌, ◌&&◌, ◌||◌, nat_lt, nat_le, not, codes}
 use Rattle.std.specs.Int.{is_in_range}
 use Rattle.std.specs.List.{All, list_all, list_any}
 use Rattle.std.proofs.lemmas.Bool.{both_ways, eqb-true, and_parts, or_cases, leb-true, ltb-true}
@@ -18,7 +18,8 @@ use Rattle.ct_lexer.proofs.Sizes.{some_token}
 -- ---- classes of ASCII
 
 range_ascii : (low high b : ℕ) → high < 128 → is_in_range low high b ≡ true → b < 128
-range_ascii low high b h k = let p = and_parts _ _ k in let top : b ≤ high = leb-true b high p.1 in omega arith
+range_ascii low high b h k =
+    let top : b ≤ high = leb-true b high (and_parts (nat_le low b) (nat_le b high) k).1 in omega arith
 
 this_ascii : (b n : ℕ) → n < 128 → (b == n) ≡ true → b < 128
 this_ascii b n h k = let e : b ≡ n = eqb-true b n k in omega arith
@@ -38,7 +39,9 @@ hex_ascii : (b : ℕ) → belongs byte.HexDigit b ≡ true → b < 128
 hex_ascii b = either _ _ b (either _ _ b (range_ascii 48 57 b (omega arith)) (range_ascii 65 70 b (omega arith))) (range_ascii 97 102 b (omega arith))
 
 bracketed_ascii : (b : ℕ) → belongs byte.Bracketed b ≡ true → b < 128
-bracketed_ascii b h = let p = and_parts _ _ h in let top : b ≤ 126 = leb-true b 126 (and_parts _ _ p.0).1 in omega arith
+bracketed_ascii b h =
+    let both : (nat_le 32 b && nat_le b 126) ≡ true = (and_parts (nat_le 32 b && nat_le b 126) (not (b == 93)) h).0 in
+    let top : b ≤ 126 = leb-true b 126 (and_parts (nat_le 32 b) (nat_le b 126) both).1 in omega arith
 
 either_ascii : (b m n : ℕ) → m < 128 → n < 128 → (b ≡ m) ⊎ (b ≡ n) → b < 128
 either_ascii b m n h k (inl e) = omega arith

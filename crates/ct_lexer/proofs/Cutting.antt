@@ -1,5 +1,5 @@
--- Cuts: one piece more at the end, what they say of the spans, and that a text has one.
-use Rattle.std.proofs.Common.{◌≡◌, ℕ, ◌+◌, ◌<◌, ◌≤◌, List, [], ◌∷◌, ◌++◌, length, drop, refl, sym, ap, ◌∙◌, subst, arith, length-append, length-drop}
+-- Cuts: one piece more at the end, and that a text has one.
+use Rattle.std.proofs.Common.{◌≡◌, ℕ, ◌+◌, ◌≤◌, List, [], ◌∷◌, ◌++◌, length, drop, refl, sym, ap, ◌∙◌, subst, arith, length-append, length-drop}
 use Rattle.std.proofs.lemmas.List.{drop_all, drop_at, drop-drop}
 use Rattle.ct_lexer.specs.declared.token.Token.{Token}
 use Rattle.ct_lexer.specs.declared.token.TokenKind.{TokenKind}
@@ -22,13 +22,6 @@ cut_token {at = at} kind word more here e t =
     subst (λ z. Cuts at z (record { kind = kind; from = at; to = at + length word } ∷ []) (at + length word) more) (sym e) (token kind word more t here)
 cut_token kind word more (gap first behind f c) e t = gap first behind f (cut_token kind word more c e t)
 cut_token kind word more (token other first behind f c) e t = token other first behind f (cut_token kind word more c e t)
-
--- ---- where a cut stands
-
-pub cut_length : {at end : ℕ} {bytes : List ℕ} {tokens : List Token} {rest : List ℕ} → Cuts at bytes tokens end rest → at + length bytes ≡ end + length rest
-cut_length here = refl
-cut_length (gap word more g c) = simp length-append (omega (arith, cut_length c))
-cut_length (token kind word more t c) = simp length-append (omega (arith, cut_length c))
 
 -- ---- the loop of `tokens`
 
@@ -64,16 +57,6 @@ whole text tokens at c h =
     let end : at ≡ length text = omega (arith, c.within) in
     let none : drop at text ≡ [] = rw end (drop_all (length text) text (omega arith)) in
     rw (none, end) at c.cut
-
-pub stuck : (text rest : List ℕ) (tokens : List Token) (at : ℕ) → CutTo text tokens at → rest ≡ drop at text → at < length text → Never IsGap rest → ((kind : TokenKind) → Never (IsToken kind) rest) → IsStuck text at
-stuck text rest tokens at c e h no_gap no_token = record {
-  within = h;
-  tokens = tokens;
-  rest = rest;
-  cut = rw e c.cut;
-  no_gap = no_gap;
-  no_token = no_token;
-}
 
 -- ---- one cut
 

@@ -67,9 +67,6 @@ spelling-append (b ∷ xs) ys = by (belongs byte.Quote b) (spelling (xs ++ ys)) 
     by true all front back e = ap (λ z. 39 ∷ 39 ∷ z) e
     by false all front back e = ap (λ z. b ∷ z) e
 
-pub opened : (bytes rest : List ℕ) (b : ℕ) → bytes ≡ b ∷ rest → b ≡ 39 → Opened bytes rest 1
-opened bytes rest b e f = record { value = []; cut = rw f at e; long = refl }
-
 -- one more character
 further : (bytes rest : List ℕ) (size : ℕ) (b : ℕ) (spelled : List ℕ) → spelling (b ∷ []) ≡ spelled → Opened bytes (spelled ++ rest) size → Opened bytes rest (size + length spelled)
 further bytes rest size b spelled e o = record {

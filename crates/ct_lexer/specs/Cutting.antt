@@ -10,9 +10,12 @@ use Rattle.ct_lexer.specs.Tokens.{IsToken, IsGap}
 -- where `rest` is left.
 pub data Cuts : ℕ → List ℕ → List Token → ℕ → List ℕ → Type 0 where
   here : {at : ℕ} {bytes : List ℕ} → Cuts at bytes [] at bytes
-  gap : {at end : ℕ} {tokens : List Token} {rest : List ℕ} (word more : List ℕ) → IsGap word more
-      → Cuts (at + length word) more tokens end rest → Cuts at (word ++ more) tokens end rest
-  token : {at end : ℕ} {tokens : List Token} {rest : List ℕ} (kind : TokenKind) (word more : List ℕ) → IsToken kind word more
+  gap : {at end : ℕ} {tokens : List Token} {rest : List ℕ} (word more : List ℕ)
+      → IsGap word more
+      → Cuts (at + length word) more tokens end rest
+      → Cuts at (word ++ more) tokens end rest
+  token : {at end : ℕ} {tokens : List Token} {rest : List ℕ} (kind : TokenKind) (word more : List ℕ)
+      → IsToken kind word more
       → Cuts (at + length word) more tokens end rest
       → Cuts at (word ++ more) (record { kind = kind; from = at; to = at + length word } ∷ tokens) end rest
 
