@@ -2,8 +2,13 @@
 #![tactic(auto)]
 
 mod gate;
+mod laws;
+mod play;
 mod script;
 mod status;
+mod top;
 
 pub use gate::{Gate, NoGate};
+pub use laws::completes;
 pub use status::Status;
+pub use top::{Done, run_top};
