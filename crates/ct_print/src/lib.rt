@@ -1,0 +1,12 @@
+//! The text of values, blocks and journals, as the transcript of a run has it.
+#![tactic(auto)]
+
+mod journal;
+mod laws;
+mod refusal;
+mod reply;
+mod value;
+
+pub use journal::{print_block, print_journal};
+pub use laws::transcripts_go_on;
+pub use value::print_value;
