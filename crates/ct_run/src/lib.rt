@@ -6,6 +6,8 @@ mod laws;
 mod play;
 mod script;
 mod status;
+#[cfg(test)]
+mod tests;
 mod top;
 
 pub use gate::{Gate, NoGate};
