@@ -1,5 +1,5 @@
 -- The script form of today, by how a script is written.
-use Rattle.std.specs.Prelude.{◌≡◌, ℕ, ◌≤◌, codes, List, [], ◌∷◌, ◌++◌, flat_map}
+use Rattle.std.specs.Prelude.{◌≡◌, ℕ, ◌≤◌, codes, List, ◌∷◌, ◌++◌, flat_map}
 use Rattle.std.specs.Fmt.{decimal}
 use Rattle.std.specs.List.{AllByRecursion}
 use Rattle.ct_types.specs.declared.command.Command.{Command}
