@@ -1,0 +1,8 @@
+use Rattle.std.proofs.Common.{◌≡◌, take, filter}
+use Rattle.std.specs.Ordering.{is_lt}
+use Rattle.ct_types.specs.Order.{key_cmp}
+use Rattle.ct_model.specs.Tables.{key_of}
+use Rattle.ct_model.proofs.rows.rows_before.Given as goal
+
+abbrev pub invariant-loop-old : goal.invariant-loop-old
+invariant-loop-old l = l.made ≡ filter (λ old. is_lt (key_cmp (key_of l.schema old) l.key)) (take l.old-index l.rows)
