@@ -1,5 +1,5 @@
 -- Versions stay at most the database's: in kept commits, in their changes and in net rows.
-use Rattle.std.proofs.Common.{◌≡◌, ℕ, ◌≤◌, ℤ, Bool, true, false, cond, nat_lt, ◌==◌, List, [], ◌∷◌, ◌++◌, map, filter, flat_map, Option, None, Some, refl, arith}
+use Rattle.std.proofs.Common.{◌≡◌, ℕ, ◌≤◌, ℤ, Bool, true, false, cond, nat_lt, ◌==◌, List, [], ◌∷◌, ◌++◌, map, filter, Option, None, Some, refl, arith}
 use Rattle.std.specs.List.{All, AllByRecursion, filter_map, cons_option}
 use Rattle.std.specs.Ordering.{is_eq}
 use Rattle.std.proofs.lemmas.List.Elements.{All-from_recursion}
@@ -15,9 +15,9 @@ use Rattle.ct_types.specs.declared.entry.Entry.{Entry}
 use Rattle.ct_model.specs.declared.db.Table.{Table}
 use Rattle.ct_model.specs.declared.db.Dated.{Dated}
 use Rattle.ct_model.specs.declared.db.Db.{Db}
-use Rattle.ct_model.specs.Apply.{apply, trim, trim_one, commit_stays, tables_after, kept_of}
+use Rattle.ct_model.specs.Apply.{apply, trim_one, commit_stays, tables_after, kept_of}
 use Rattle.ct_model.specs.Tables.{table_of}
-use Rattle.ct_model.specs.Net.{net, net_of, net_tracked, net_rows, row_of, window, last_of, inserts_of, keys_of, changes_above, dated_in, floor_of, is_insert}
+use Rattle.ct_model.specs.Net.{net, net_of, net_tracked, row_of, window, last_of, inserts_of, keys_of, changes_above, dated_in, floor_of, is_insert}
 use Rattle.ct_core.specs.Numbers.{AreKeptUpTo, IsUpTo, IsRowUpTo}
 
 -- ---- of any list

@@ -1,5 +1,5 @@
 -- How plays and their order go on, and that whole plays of the same statements are one.
-use Rattle.std.proofs.Common.{◌≡◌, ℕ, ◌+◌, Bool, true, false, ◌||◌, cond, List, [], ◌∷◌, ◌++◌, ◌⊎◌, inl, inr, length, refl, sym, ap, subst, ◌∙◌, arith}
+use Rattle.std.proofs.Common.{◌≡◌, ℕ, ◌+◌, Bool, true, false, ◌||◌, cond, List, [], ◌∷◌, ◌++◌, inl, inr, length, refl, sym, ap, subst, ◌∙◌, arith}
 use Rattle.ct_types.specs.declared.reply.Reply.{Reply}
 use Rattle.ct_types.specs.declared.command.Command.{Command}
 use Rattle.ct_types.specs.declared.command.Journaled.{Journaled}

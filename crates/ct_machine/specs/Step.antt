@@ -1,5 +1,5 @@
 -- One statement: what it comes to in a database, and what it makes of the machine.
-use Rattle.std.specs.Prelude.{ℕ, zero, suc, ◌+◌, ◌*◌, pos, Bool, true, false, ◌==◌, ◌||◌, codes, List, [], ◌∷◌, ◌++◌, map, flat_map, Option, None, Some, if◌then◌else◌, is_some}
+use Rattle.std.specs.Prelude.{ℕ, zero, suc, ◌+◌, ◌*◌, pos, Bool, true, false, ◌==◌, codes, List, [], ◌∷◌, ◌++◌, map, Option, None, Some, if◌then◌else◌, is_some}
 use Rattle.std.specs.Int.{bit_at, to_le_bytes, w32}
 use Rattle.std.specs.List.{list_any}
 use Rattle.std.specs.Option.{option_map}

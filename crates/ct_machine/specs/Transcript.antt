@@ -1,11 +1,10 @@
 -- The text of a journal.
-use Rattle.std.specs.Prelude.{ℕ, ◌+◌, ◌/◌, ◌%◌, Bool, nat_lt, ◌==◌, ◌||◌, codes, List, [], ◌∷◌, ◌++◌, length, flat_map, Option, None, Some, if◌then◌else◌}
+use Rattle.std.specs.Prelude.{ℕ, ◌+◌, ◌/◌, ◌%◌, nat_lt, ◌==◌, ◌||◌, codes, List, [], ◌∷◌, ◌++◌, length, flat_map, Option, None, Some, if◌then◌else◌}
 use Rattle.std.specs.Fmt.{decimal, signed_decimal}
 use Rattle.ct_types.specs.declared.value.Value.{Value}
 use Rattle.ct_types.specs.declared.value.Value.TheVariants.{Null, Int, Text, Bytes}
 use Rattle.ct_types.specs.declared.value.Key.{Key}
 use Rattle.ct_types.specs.declared.value.Row.{Row}
-use Rattle.ct_types.specs.declared.entry.Op.{Op}
 use Rattle.ct_types.specs.declared.refusal.Refusal.{Refusal}
 use Rattle.ct_types.specs.declared.refusal.Refusal.TheVariants as refusal
 use Rattle.ct_types.specs.declared.verdict.Touched.{Touched}

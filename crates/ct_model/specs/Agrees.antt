@@ -1,9 +1,8 @@
 -- When a client's copy of a table agrees with a database: the net changes lead from the one to the other.
-use Rattle.std.specs.Prelude.{◌≡◌, ℕ, ◌≤◌, List, map, Option, None, Some, Contains, pos}
+use Rattle.std.specs.Prelude.{◌≡◌, ℕ, ◌≤◌, List, map, Some, Contains, pos}
 use Rattle.std.specs.Option.{IfSome}
 use Rattle.ct_types.specs.declared.value.Key.{Key}
 use Rattle.ct_types.specs.declared.value.Row.{Row}
-use Rattle.ct_types.specs.declared.tracked.Tracked.{Tracked}
 use Rattle.ct_model.specs.declared.db.Table.{Table}
 use Rattle.ct_model.specs.declared.db.Db.{Db}
 use Rattle.ct_model.specs.Net.{net}

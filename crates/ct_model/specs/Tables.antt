@@ -1,7 +1,7 @@
 -- The rows of a table by key, and the tables of a database by id.
-use Rattle.std.specs.Prelude.{◌≡◌, ℕ, ◌-◌, Bool, false, nat_lt, ◌==◌, List, ◌++◌, filter, Option, None, Some, slice_get}
+use Rattle.std.specs.Prelude.{ℕ, ◌-◌, Bool, false, nat_lt, ◌==◌, List, ◌++◌, filter, Option, None, Some, slice_get}
 use Rattle.std.specs.List.{list_any, filter_map, find}
-use Rattle.std.specs.Option.{option_to_list, option_map, option_and_then}
+use Rattle.std.specs.Option.{option_to_list}
 use Rattle.std.specs.Ordering.{is_lt, is_eq, is_gt}
 use Rattle.ct_types.specs.Order.{key_cmp}
 use Rattle.ct_types.specs.declared.value.Key.{Key}

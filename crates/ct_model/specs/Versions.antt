@@ -1,12 +1,10 @@
 -- The versions that a client asks for, and how cleanup raises the minima.
-use Rattle.std.specs.Prelude.{ℕ, ◌+◌, Bool, nat_lt, nat_le, ◌==◌, max, List, [], ◌∷◌, map, filter, fold, Option, None, Some, if◌then◌else◌}
+use Rattle.std.specs.Prelude.{ℕ, ◌+◌, nat_lt, nat_le, max, List, [], map, filter, fold, Option, None, Some, if◌then◌else◌}
 use Rattle.std.specs.Option.{option_map, option_and_then}
 use Rattle.std.specs.List.{filter_map}
 use Rattle.ct_types.specs.declared.value.Key.{Key}
-use Rattle.ct_types.specs.declared.entry.Keep.{Keep}
 use Rattle.ct_types.specs.declared.entry.Min.{Min}
 use Rattle.ct_types.specs.declared.entry.Kept.{Kept}
-use Rattle.ct_types.specs.declared.tracked.Tracked.{Tracked}
 use Rattle.ct_types.specs.declared.tracked.VersionRow.{VersionRow}
 use Rattle.ct_model.specs.declared.db.Table.{Table}
 use Rattle.ct_model.specs.declared.db.Dated.{Dated}

@@ -1,4 +1,4 @@
-use Rattle.std.proofs.Common.{pos, Some, arith}
+use Rattle.std.proofs.Common.{arith}
 use Rattle.ct_core.proofs.Versions.{net-up_to}
 use Rattle.ct_core.proofs.decide.list_changes.Goals as goal
 
