@@ -2,10 +2,10 @@
 //! few tests of them that code makes and the laws that stand above them.
 #![tactic(auto)]
 
+mod checks;
 mod laws;
 mod outcome;
-mod tests_of;
 
+pub use checks::{draws_version, wants_memory};
 pub use laws::{one_whole_play, plays_go_on};
 pub use outcome::Outcome;
-pub use tests_of::{draws_version, wants_memory};
