@@ -1,8 +1,8 @@
 -- What a line of a script is, by its bytes alone. The rules, by which a line is at fault, are this project's own:
 -- 1 it is not UTF-8; 2 it has none of the forms; 3 its session is not from 1 to 32; 4 its text begins a command, of which none is
 -- known; 5 it continues no statement; 6 it begins with `#` and is no directive; 9 its statement's text passes 65,536 bytes.
-use Rattle.std.specs.Prelude.{ℕ, ◌+◌, ◌-◌, ◌*◌, ◌==◌, ◌&&◌, ◌||◌, nat_lt, nat_eq, not, Bool, List, length, take, drop, slice_index, fold, codes, if◌then◌else◌}
-use Rattle.std.specs.List.{list_all, prefix_len, suffix_len, starts_with, before_first, after_first, position_or_len}
+use Rattle.std.specs.Prelude.{ℕ, ◌+◌, ◌-◌, ◌*◌, ◌==◌, ◌&&◌, ◌||◌, nat_lt, nat_eq, not, Bool, List, length, take, drop, take_while, reverse, slice_index, fold, codes, if◌then◌else◌}
+use Rattle.std.specs.List.{list_all, starts_with, before_first, after_first, position_or_len}
 use Rattle.std.specs.Cmp.Lexicographic.{pointwise}
 use Rattle.std.specs.Char.{is_ascii_digit}
 use Rattle.std.specs.Str.{is_utf8}
@@ -18,11 +18,11 @@ is_colon byte = byte == 58
 
 -- bytes without the blanks at their front
 abbrev pub without_front : List ℕ → List ℕ
-without_front bytes = drop (prefix_len is_blank bytes) bytes
+without_front bytes = drop (length (take_while is_blank bytes)) bytes
 
 -- bytes without the blanks at their end
 abbrev pub without_end : List ℕ → List ℕ
-without_end bytes = take (length bytes - suffix_len is_blank bytes) bytes
+without_end bytes = take (length bytes - length (take_while is_blank (reverse bytes))) bytes
 
 -- bytes without the blanks at both ends
 unfoldable pub trimmed : List ℕ → List ℕ

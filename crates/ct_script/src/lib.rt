@@ -2,7 +2,12 @@
 #![tactic(auto)]
 
 mod error;
+mod forms;
 mod kind;
+mod lines;
+mod phases;
+mod reading;
+mod said;
 mod script;
 
 pub use error::ScriptError;
