@@ -40,4 +40,4 @@ or_later (Some rule) number later = Some (number, rule)
 unfoldable pub first_fault : List (List ℕ) → List (List ℕ) → Option (ℕ × ℕ)
 first_fault before [] = None
 first_fault before (line ∷ more) =
-  or_later (broken_after before line) (length before + 1) (first_fault (before ++ line ∷ []) more)
+    or_later (broken_after before line) (length before + 1) (first_fault (before ++ line ∷ []) more)

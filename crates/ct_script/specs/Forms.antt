@@ -31,7 +31,7 @@ trimmed bytes = without_end (without_front bytes)
 -- digits without a leading zero, where 0 alone is allowed
 unfoldable pub is_number : List ℕ → Bool
 is_number digits =
-  nat_lt 0 (length digits) && list_all is_ascii_digit digits && (length digits == 1 || not (slice_index digits 0 == 48))
+    nat_lt 0 (length digits) && list_all is_ascii_digit digits && (length digits == 1 || not (slice_index digits 0 == 48))
 
 -- the number that decimal digits write
 abbrev pub number_of : List ℕ → ℕ
@@ -48,14 +48,14 @@ head_text line = trimmed (after_first is_colon line)
 -- a first line of a statement, by its session and its text: a text that begins with `@` is a command
 unfoldable pub headed : ℕ → List ℕ → Kind
 headed session text =
-  if session == 0 || nat_lt 32 session then Fault 3 else (if slice_index text 0 == 64 then Fault 4 else Head session)
+    if session == 0 || nat_lt 32 session then Fault 3 else (if slice_index text 0 == 64 then Fault 4 else Head session)
 
 -- a line that begins with neither a blank nor `#` nor `--`: a number and a colon begin a statement
 unfoldable pub numbered : List ℕ → Kind
 numbered line =
-  if nat_lt (position_or_len is_colon line) (length line) && is_number (before_colon line)
-  then headed (number_of (before_colon line)) (head_text line)
-  else Fault 2
+    if nat_lt (position_or_len is_colon line) (length line) && is_number (before_colon line)
+    then headed (number_of (before_colon line)) (head_text line)
+    else Fault 2
 
 -- a line that begins with `#`
 unfoldable pub directive : List ℕ → Kind
@@ -64,10 +64,10 @@ directive line = if pointwise nat_eq line (codes "#phase") then Mark else Fault 
 -- a line that is UTF-8
 unfoldable pub form_of : List ℕ → Kind
 form_of line =
-  if list_all is_blank line then Ignored
-  else (if starts_with nat_eq line (codes "--") then Ignored
-  else (if slice_index line 0 == 35 then directive line
-  else (if is_blank (slice_index line 0) then More else numbered line)))
+    if list_all is_blank line then Ignored
+    else (if starts_with nat_eq line (codes "--") then Ignored
+    else (if slice_index line 0 == 35 then directive line
+    else (if is_blank (slice_index line 0) then More else numbered line)))
 
 -- a line
 unfoldable pub kind_of : List ℕ → Kind

@@ -1,6 +1,7 @@
 pub mod Answer
 pub mod Faults
 pub mod Forms
+pub mod Placing
 pub mod Plain
 pub mod Reading
 pub mod Schedule

@@ -27,15 +27,16 @@ statements_in now = sum_by length now.ended + length now.running
 
 abbrev pub with_text : ℕ → List ℕ → Progress → Result Progress ℕ
 with_text session text now =
-  if nat_lt most_text (length text) then Err 9
-  else Ok (record now { running = now.running ++ record { session = session; text = text } ∷ [] })
+    if nat_lt most_text (length text) then Err 9
+    else Ok (record now { running = now.running ++ record { session = session; text = text } ∷ [] })
 
 abbrev pub with_more : List ℕ → Progress → Option Statement → Result Progress ℕ
 with_more line now None = Err 5
 with_more line now (Some last) =
-  if nat_lt most_text (length last.text + 1 + length line) then Err 9
-  else Ok (record now {
-    running = take (length now.running - 1) now.running ++ record last { text = last.text ++ 10 ∷ line } ∷ [] })
+    if nat_lt most_text (length last.text + 1 + length line) then Err 9
+    else Ok (record now {
+      running = take (length now.running - 1) now.running ++ record last { text = last.text ++ 10 ∷ line } ∷ [];
+    })
 
 abbrev pub stepped : Kind → List ℕ → Progress → Result Progress ℕ
 stepped Ignored line now = Ok now
@@ -67,3 +68,8 @@ abbrev pub Finds : Result (List (List Statement)) ScriptError → Result (List (
 Finds (Ok phases) given = given ≡ Ok phases
 Finds (Err (BadScript line rule)) given = given ≡ Err (line, rule)
 Finds (Err errors.Memory) given = Unit {0}
+
+-- the error of a line with this number
+abbrev pub error_at : ℕ → LineFault → ScriptError
+error_at number (Broken rule) = BadScript number rule
+error_at number Memory = errors.Memory

@@ -7,7 +7,7 @@ use Rattle.ct_script.specs.declared.script.Phase.{Phase}
 use Rattle.ct_script.specs.declared.script.Lane.{Lane}
 
 abbrev pub is_of : ℕ → Statement → Bool
-is_of session statement = statement.session == session
+is_of session statement = session == statement.session
 
 -- the sessions of a phase, each once, in the order in which the phase names them
 abbrev pub named : List Statement → List ℕ
@@ -32,7 +32,7 @@ lanes_of earlier phase = map (lane_of earlier phase) (named phase)
 unfoldable pub scheduled : List Statement → List (List Statement) → List Phase
 scheduled earlier [] = []
 scheduled earlier (phase ∷ more) =
-  record { restart = false; sessions = lanes_of earlier phase } ∷ scheduled (earlier ++ phase) more
+    record { restart = false; sessions = lanes_of earlier phase } ∷ scheduled (earlier ++ phase) more
 
 abbrev pub script_of : List (List Statement) → Script
 script_of phases = record { phases = scheduled [] phases }

@@ -27,7 +27,7 @@ continued (line ∷ more) = added (kind_of line) line (continued more)
 abbrev pub begun : Kind → List ℕ → List (List ℕ) → List (List Statement) → List (List Statement)
 begun Mark line more phases = [] ∷ phases
 begun (Head session) line more phases =
-  onto_first (record { session = session; text = head_text line ++ continued more }) phases
+    onto_first (record { session = session; text = head_text line ++ continued more }) phases
 begun Ignored line more phases = phases
 begun More line more phases = phases
 begun (Fault rule) line more phases = phases

@@ -38,7 +38,11 @@ fn blanks_before(bytes: &[u8]) -> usize
 fn blanks_after(bytes: &[u8]) -> usize
     ensures { result ≡ length (take_while is_blank (reverse bytes.now)) }
 {
-    bytes.iter().rev().take_while(|byte| is_blank(**byte)).count()
+    bytes
+        .iter()
+        .rev()
+        .take_while(|byte| is_blank(**byte))
+        .count()
 }
 
 /// Whether bytes are digits without a leading zero, where 0 alone is allowed.

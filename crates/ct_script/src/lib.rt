@@ -4,11 +4,17 @@
 mod error;
 mod forms;
 mod kind;
+mod lanes;
 mod lines;
 mod phases;
+mod read;
 mod reading;
 mod said;
+mod schedule;
 mod script;
+#[cfg(test)]
+mod tests;
 
 pub use error::ScriptError;
+pub use read::read_script;
 pub use script::{Lane, Phase, Script};

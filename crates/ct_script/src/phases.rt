@@ -1,6 +1,6 @@
 ghost use Rattle.std.specs.Prelude.{◌≡◌, ◌<◌, ◌^◌, length, sum_by, IfOk};
 ghost use Rattle.std.specs.Str.Lines.{lines};
-ghost use Rattle.ct_script.specs.Reading.{Finds, start, run};
+ghost use Rattle.ct_script.specs.Reading.{Finds, error_at, start, run};
 
 use crate::ScriptError;
 use crate::lines::first_line;
@@ -8,6 +8,16 @@ use crate::reading::{LineFault, Reading};
 use crate::said::Said;
 use ct_types::List;
 use std::alloc::Global;
+
+/// The error of a line with this number.
+fn error_at(number: u32, fault: LineFault) -> ScriptError
+    ensures { result ≡ error_at number fault }
+{
+    match fault {
+        LineFault::Broken(rule) => ScriptError::BadScript { line: number, rule },
+        LineFault::Memory => ScriptError::Memory,
+    }
+}
 
 /// The phases of a script's bytes, each the list of its statements.
 pub(crate) fn read_phases(alloc: Global, bytes: &[u8]) -> Result<List<List<Said>>, ScriptError>
@@ -21,12 +31,8 @@ pub(crate) fn read_phases(alloc: Global, bytes: &[u8]) -> Result<List<List<Said>
     while !rest.is_empty() {
         let (line, after) = first_line(rest);
         number += 1;
-        match reading.take(alloc, line) {
-            Ok(()) => {}
-            Err(LineFault::Broken(rule)) => {
-                return Err(ScriptError::BadScript { line: number, rule });
-            }
-            Err(LineFault::Memory) => return Err(ScriptError::Memory),
+        if let Err(fault) = reading.take(alloc, line) {
+            return Err(error_at(number, fault));
         }
         rest = after;
     }

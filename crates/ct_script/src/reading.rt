@@ -70,7 +70,7 @@ fn push_said(
 ) -> Result<(), LineFault>
     ensures { (ended : Listed (Listed Statement)) →
         Steps result (record { ended = ended; running = running.new.items })
-            (with_text session text.now (record { ended = ended; running = running.old.items })) }
+        (with_text session text.now (record { ended = ended; running = running.old.items })) }
 {
     if text.len() > MOST_TEXT {
         return Err(LineFault::Broken(9));
@@ -82,7 +82,7 @@ fn push_said(
 fn push_more(running: &mut Vec<Said>, line: &str) -> Result<(), LineFault>
     ensures { (ended : Listed (Listed Statement)) →
         Steps result (record { ended = ended; running = running.new.items })
-            (with_more line.now (record { ended = ended; running = running.old.items }) (last_or None running.old.items)) }
+        (with_more line.now (record { ended = ended; running = running.old.items }) (last_or None running.old.items)) }
 {
     let Some(mut last) = running.pop() else {
         return Err(LineFault::Broken(5));

@@ -17,13 +17,13 @@ returns-in-Mark c = subst (Steps _ _) (sym (step-kind _ _ Mark (kind_of-utf8 _ _
 
 pub returns-in-Head : goal.returns-in-Head
 returns-in-Head c =
-  let kind = kind_of-utf8 _ _ (Head c.in-Head.session) c.in-Ok.ensures.cases (sym c.form_of.ensures ∙ c.in-Head.is) in
-  subst (Steps c.push_said.result _) (step-head _ _ c.in-Head.session _ _ kind (c.head_text.ensures ∙ ap head_text c.in-Ok.ensures.cases.0) c.self.view_is) (c.push_said.ensures c.self.inside.ended)
+    let kind = kind_of-utf8 _ _ (Head c.in-Head.session) c.in-Ok.ensures.cases (sym c.form_of.ensures ∙ c.in-Head.is) in
+    subst (Steps c.push_said.result _) (step-head _ _ c.in-Head.session _ _ kind (c.head_text.ensures ∙ ap head_text c.in-Ok.ensures.cases.0) c.self.view_is) (c.push_said.ensures c.self.inside.ended)
 
 pub returns-in-More : goal.returns-in-More
 returns-in-More c =
-  let kind = kind_of-utf8 _ _ More c.in-Ok.ensures.cases (sym c.form_of.ensures ∙ c.in-More.is) in
-  subst (Steps c.push_more.result _) (step-more _ _ _ _ kind c.in-Ok.ensures.cases.0 c.self-in-More.view_is) (c.push_more.ensures c.self-in-More.inside.ended)
+    let kind = kind_of-utf8 _ _ More c.in-Ok.ensures.cases (sym c.form_of.ensures ∙ c.in-More.is) in
+    subst (Steps c.push_more.result _) (step-more _ _ _ _ kind c.in-Ok.ensures.cases.0 c.self-in-More.view_is) (c.push_more.ensures c.self-in-More.inside.ended)
 
 pub returns-in-Fault : goal.returns-in-Fault
 returns-in-Fault c = step-kind _ _ (Fault c.in-Fault.rule) (kind_of-utf8 _ _ _ c.in-Ok.ensures.cases (sym c.form_of.ensures ∙ c.in-Fault.is))
