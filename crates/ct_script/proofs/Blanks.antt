@@ -1,5 +1,5 @@
 -- A text may be cut where its blanks end, and where the blanks at its end begin.
-use Rattle.std.proofs.Common.{◌≡◌, ℕ, ◌+◌, ◌-◌, ◌<◌, ◌≤◌, Bool, true, eqb, ◌||◌, zero, suc, List, length, take, drop, get_or, take_while, reverse, refl, sym, ap, subst, ◌∙◌, arith, rules}
+use Rattle.std.proofs.Common.{◌≡◌, ℕ, ◌-◌, ◌<◌, true, zero, suc, List, length, get_or, take_while, reverse, subst, ◌∙◌, arith}
 use Rattle.std.specs.List.{prefix_len}
 use Rattle.std.specs.Str.{IsUtf8, IsCharBoundary}
 use Rattle.std.proofs.lemmas.List.{get_or-reverse, length-reverse}

@@ -1,5 +1,5 @@
 -- Putting the statements of a phase into lanes gives the lanes of the phase.
-use Rattle.std.proofs.Common.{◌≡◌, ℕ, ◌+◌, ◌<◌, ◌^◌, ◌≢◌, ◌||◌, not, nat_eq, zero, suc, Bool, true, false, cond, filter, List, [], ◌∷◌, ◌++◌, map, fold, length, set, get_or, count_by, slice_index, sum_by, append_assoc, length-append, get_or-set_other, replicate, refl, sym, ap, subst, ◌∙◌, arith, rules, tests}
+use Rattle.std.proofs.Common.{◌≡◌, ℕ, ◌+◌, ◌<◌, ◌^◌, ◌≢◌, ◌||◌, not, nat_eq, zero, suc, Bool, true, false, cond, filter, List, [], ◌∷◌, ◌++◌, map, fold, length, set, get_or, count_by, slice_index, sum_by, append_assoc, length-append, get_or-set_other, replicate, refl, sym, ap, ◌∙◌, arith}
 use Rattle.std.specs.List.{list_any, prefix_len, position_or_len, IsDistinct, AllByRecursion, flat_map}
 use Rattle.std.proofs.lemmas.Bool.Decides.{nat_tests}
 use Rattle.std.proofs.lemmas.List.Sums.{fold_push, length-filter, sum_by-append, count_by-le-length}
@@ -7,7 +7,7 @@ use Rattle.std.proofs.lemmas.List.Concat.{length-flat_map}
 use Rattle.std.proofs.lemmas.Grind.{common_steps, flat_map-append}
 use Rattle.indexmap.specs.IndexSet.{insert_key}
 use Rattle.ct_script.specs.Statements.{Statement}
-use Rattle.ct_script.specs.Schedule.{is_of, named, texts_of, lane_of, lanes_of, scheduled}
+use Rattle.ct_script.specs.Schedule.{is_of, named, texts_of, lanes_of, scheduled}
 use Rattle.ct_script.specs.declared.script.Phase.{Phase}
 use Rattle.ct_script.specs.Placing.{placed, with_text_at, lane_from, Counted}
 use Rattle.ct_script.specs.declared.script.Lane.{Lane}

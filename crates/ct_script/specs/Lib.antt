@@ -2,7 +2,6 @@ pub mod Answer
 pub mod Faults
 pub mod Forms
 pub mod Placing
-pub mod Plain
 pub mod Reading
 pub mod Schedule
 pub mod Statements

@@ -1,6 +1,6 @@
 -- How a statement is put into the lanes of its phase, step by step, as the code does it. That the lanes are then those that the
 -- definition of a script gives is proved of these alone, so no promise speaks of them.
-use Rattle.std.specs.Prelude.{◌≡◌, ℕ, ◌+◌, count_by, nat_eq, zero, suc, false, List, [], ◌∷◌, ◌++◌, map, slice_index, if◌then◌else◌}
+use Rattle.std.specs.Prelude.{◌≡◌, ℕ, ◌+◌, count_by, nat_eq, zero, suc, List, [], ◌∷◌, ◌++◌, slice_index, if◌then◌else◌}
 use Rattle.std.specs.List.{list_any, position_or_len}
 use Rattle.ct_script.specs.Statements.{Statement}
 use Rattle.ct_script.specs.Schedule.{is_of, texts_of}

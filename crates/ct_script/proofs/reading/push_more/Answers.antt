@@ -1,4 +1,4 @@
-use Rattle.std.proofs.Common.{◌≡◌, ◌<◌, ◌≤◌, ◌+◌, ◌++◌, ◌∷◌, [], length, Some, None, ap, sym, ◌∙◌, arith}
+use Rattle.std.proofs.Common.{◌≡◌, ◌<◌, ◌≤◌, ◌+◌, ◌++◌, ◌∷◌, [], length, None, ap, ◌∙◌, arith}
 use Rattle.std.specs.List.{last_or}
 use Rattle.ct_script.proofs.Lasts.{last_or-push}
 use Rattle.ct_script.proofs.Steps.{with_more-long, with_more-last, Steps-pushed}

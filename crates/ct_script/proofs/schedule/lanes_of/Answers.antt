@@ -1,4 +1,4 @@
-use Rattle.std.proofs.Common.{◌≡◌, ◌+◌, ◌<◌, ◌++◌, ◌∷◌, [], ℕ, set, get_or, length, nat_eq, count_by, slice_index, sym, ap, subst, ◌∙◌, arith, rules}
+use Rattle.std.proofs.Common.{◌≡◌, ◌+◌, ◌<◌, ◌++◌, ◌∷◌, [], ℕ, set, get_or, length, nat_eq, count_by, slice_index, sym, ap, subst, ◌∙◌, arith}
 use Rattle.std.proofs.lemmas.List.Sums.{fold_push}
 use Rattle.indexmap.specs.IndexSet.{insert_key}
 use Rattle.ct_script.specs.Schedule.{is_of, named}

@@ -1,4 +1,4 @@
-use Rattle.std.proofs.Common.{◌≡◌, ◌+◌, ◌<◌, ◌^◌, ℕ, nat_eq, length, map, slice_index}
+use Rattle.std.proofs.Common.{◌≡◌, nat_eq, map}
 use Rattle.std.specs.List.{IsDistinct}
 use Rattle.ct_script.specs.Schedule.{named}
 use Rattle.ct_script.specs.Placing.{lane_from, Counted}

@@ -1,5 +1,4 @@
-use Rattle.std.proofs.Common.{◌≡◌, ◌++◌, ◌∷◌, [], false, length, slice_index, sym, ap, ◌∙◌, append_assoc, arith, rules}
-use Rattle.std.proofs.lemmas.Grind.{common_steps}
+use Rattle.std.proofs.Common.{◌++◌, ◌∷◌, [], false, length, slice_index, sym, ap, ◌∙◌, append_assoc, arith}
 use Rattle.std.specs.Vec.Iter.{into_iter_items}
 use Rattle.ct_script.specs.Schedule.{scheduled}
 use Rattle.ct_script.proofs.Placements.{flat, room, lanes-counted, scheduled-push, scheduled-none, counted-phase}

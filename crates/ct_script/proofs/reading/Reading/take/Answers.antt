@@ -1,8 +1,7 @@
-use Rattle.std.proofs.Common.{◌≡◌, Some, None, ap, sym, subst, ◌∙◌}
+use Rattle.std.proofs.Common.{ap, sym, subst, ◌∙◌}
 use Rattle.ct_script.specs.Forms.{head_text}
 use Rattle.ct_script.specs.Reading.{Steps}
 use Rattle.ct_script.proofs.Steps.{kind_of-utf8, kind_of-other, step-kind, step-head, step-more}
-use Rattle.ct_script.specs.declared.kind.Kind.{Kind}
 use Rattle.ct_script.specs.declared.kind.Kind.TheVariants.{Ignored, Mark, Head, More, Fault}
 use Rattle.ct_script.proofs.reading.Reading.take.Goals as goal
 
