@@ -1,0 +1,20 @@
+//! The script form: lines of statements with their sessions, in phases.
+#![tactic(auto)]
+
+mod error;
+mod forms;
+mod kind;
+mod lanes;
+mod lines;
+mod phases;
+mod read;
+mod reading;
+mod said;
+mod schedule;
+mod script;
+#[cfg(test)]
+mod tests;
+
+pub use error::ScriptError;
+pub use read::read_script;
+pub use script::{Lane, Phase, Script};
