@@ -1,5 +1,6 @@
 use crate::{NoGate, run_top};
 use ct_faults::{Failed, MemSink, MemSource, NoDisk, Sink, Source};
+use ct_types::{Bin, Copies, Key, List, Refusal, Reply, Text, Value};
 use std::alloc::{AllocError, Global};
 use std::sync::Wait;
 use std::test::Fail;
@@ -154,5 +155,26 @@ fn a_source_is_too_large(rt: HostRuntime) -> Result<(), Fail> {
     let status = status_of(&rt, alloc, &["run"], &mut source, &mut sink)?;
     assert_eq!(rt; status, 8);
     assert_eq!(rt; sink.bytes(), b"TooLarge\n".as_slice());
+    Ok(())
+}
+
+#[test]
+fn copies_equal_their_sources(rt: HostRuntime) -> Result<(), Fail> {
+    let alloc = rt.alloc();
+    let bytes = Bin::of(alloc, b"\x00\xff")?;
+    let copied = bytes.copy(alloc)?;
+    assert_eq!(rt; copied.as_bytes(), b"\x00\xff".as_slice());
+    let mut values = List::new(alloc);
+    values.push(Value::Int(7))?;
+    values.push(Value::Null)?;
+    let table = Text::of(alloc, "t")?;
+    let key = Key(values);
+    let reply = Reply::Refused(Refusal::Duplicate { table, key });
+    if let Reply::Refused(Refusal::Duplicate { table, key }) = reply.copy(alloc)? {
+        assert_eq!(rt; table.as_str(), "t");
+        assert_eq!(rt; key.0.as_slice().len(), 2);
+        return Ok(());
+    }
+    assert!(rt; false);
     Ok(())
 }
