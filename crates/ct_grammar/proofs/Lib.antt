@@ -1,0 +1,14 @@
+pub mod Spans
+pub mod Pairs
+pub mod Turns
+pub mod FirstSets
+pub mod Outcomes
+pub mod Sequences
+pub mod Choices
+pub mod Repetitions
+pub mod EndedLists
+pub mod Levels
+pub mod Lookahead
+pub mod LeadingTokens
+pub mod Calls
+pub mod Fronts

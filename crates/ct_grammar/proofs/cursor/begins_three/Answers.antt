@@ -1,0 +1,12 @@
+use Rattle.std.proofs.Common.{[], ◌∷◌, sym, arith}
+use Rattle.ct_grammar.specs.Lexemes.{lexemes}
+use Rattle.ct_grammar.proofs.Spans.{length_lexemes, matches_short}
+use Rattle.ct_grammar.proofs.cursor.begins_three.Goals as goal
+
+pub returns-in-len1 : goal.returns-in-len1
+returns-in-len1 c = sym (matches_short (c.args.one.now ∷ c.args.two.now ∷ c.args.three.now ∷ []) (lexemes c.args.text.now c.args.tokens.now)
+    (omega (arith, length_lexemes c.args.text.now c.args.tokens.now, c.in-len1.len_below)))
+
+pub returns-in-len2 : goal.returns-in-len2
+returns-in-len2 c = sym (matches_short (c.args.one.now ∷ c.args.two.now ∷ c.args.three.now ∷ []) (lexemes c.args.text.now c.args.tokens.now)
+    (omega (arith, length_lexemes c.args.text.now c.args.tokens.now, c.in-len2.len_below)))
