@@ -1,11 +1,14 @@
--- A count of turns that are left, beside a loop that counts up.
+-- The turns that a loop has left, while it counts up, and the levels that a reader has left.
 use Rattle.std.proofs.Common.{◌≡◌, ℕ, suc, ◌+◌, ◌-◌, ◌<◌, ◌≤◌, ap, ◌∙◌, arith}
 
-pub one_more : {X : Type 0} {x : X} (f : ℕ → X) (n at : ℕ) → at < n → x ≡ f (n - at) → x ≡ f (suc (n - (at + 1)))
-one_more f n at below e = let turn : n - at ≡ suc (n - (at + 1)) = omega arith in e ∙ ap f turn
+-- before the last turn, one is left and those behind it
+pub turn_left : {X : Type 0} {x : X} (f : ℕ → X) (turns done : ℕ) → done < turns → x ≡ f (turns - done) → x ≡ f (suc (turns - (done + 1)))
+turn_left f turns done before e = e ∙ ap f (let left : turns - done ≡ suc (turns - (done + 1)) = omega arith in left)
 
-pub no_more : {X : Type 0} {x : X} (f : ℕ → X) (n at : ℕ) → n ≤ at → x ≡ f (n - at) → x ≡ f 0
-no_more f n at done e = let none : n - at ≡ 0 = omega arith in e ∙ ap f none
+-- behind the last turn, none is left
+pub turns_spent : {X : Type 0} {x : X} (f : ℕ → X) (turns done : ℕ) → turns ≤ done → x ≡ f (turns - done) → x ≡ f 0
+turns_spent f turns done behind e = e ∙ ap f (let left : turns - done ≡ 0 = omega arith in left)
 
-pub deeper : {X : Type 0} (f : ℕ → X) (n : ℕ) → 0 < n → f n ≡ f (suc (n - 1))
-deeper f n some = let e : n ≡ suc (n - 1) = omega arith in ap f e
+-- some levels are one and those below it
+pub level_left : {X : Type 0} (f : ℕ → X) (levels : ℕ) → 0 < levels → f levels ≡ f (suc (levels - 1))
+level_left f levels some = ap f (let one : levels ≡ suc (levels - 1) = omega arith in one)

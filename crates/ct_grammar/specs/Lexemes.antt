@@ -1,5 +1,5 @@
 -- What rules see of a text: the kind and the word of each token.
-use Rattle.std.specs.Prelude.{◌≡◌, ℕ, ◌-◌, ◌+◌, ◌<◌, ◌≤◌, Bool, true, false, ◌&&◌, List, [], ◌∷◌, length, slice_range, get_or}
+use Rattle.std.specs.Prelude.{ℕ, ◌-◌, ◌<◌, Bool, true, false, ◌&&◌, List, [], ◌∷◌, length, slice_range, get_or}
 use Rattle.ct_lexer.specs.declared.token.Token.{Token}
 use Rattle.ct_grammar.specs.declared.kind.Kind.{Kind}
 use Rattle.ct_grammar.specs.Kinds.{Set, has, kind_of}

@@ -1,4 +1,4 @@
-use Rattle.std.proofs.Common.{◌≡◌, ◌∙◌, sym, ap, ℕ, ◌+◌, ◌*◌, List, ◌∷◌, ◌++◌, get_or, drop, append_assoc, append-nil, rules, arith}
+use Rattle.std.proofs.Common.{◌∙◌, sym, ap, ◌+◌, ◌*◌, ◌++◌, drop, append-nil, rules, arith}
 use Rattle.std.proofs.lemmas.Grind.{common_steps}
 use Rattle.ct_grammar.specs.Words.{hex_pairs}
 use Rattle.ct_grammar.proofs.Pairs.{next_pair, no_pair}
