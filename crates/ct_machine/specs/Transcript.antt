@@ -106,6 +106,7 @@ refusal_text (refusal.CountClash wanted got) = codes "Refused CountClash " ++ de
 refusal_text (refusal.TooMany limit) = counted (codes "Refused TooMany ") limit
 refusal_text (refusal.Exhausted limit) = counted (codes "Refused Exhausted ") limit
 refusal_text (refusal.Stopped event) = counted (codes "Refused Stopped at ") event
+refusal_text refusal.NotBuilt = codes "Refused NotBuilt\n"
 
 -- ---- replies
 
