@@ -1,6 +1,9 @@
 pub mod Blanks
 pub mod FirstLines
 pub mod Lasts
+pub mod Parts
 pub mod Placements
+pub mod PlainLines
+pub mod PlainRuns
 pub mod Runs
 pub mod Steps
