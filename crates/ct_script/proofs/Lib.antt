@@ -3,6 +3,7 @@ pub mod FirstLines
 pub mod Lasts
 pub mod Parts
 pub mod Placements
+pub mod PlainBack
 pub mod PlainLines
 pub mod PlainRuns
 pub mod Runs

@@ -1,5 +1,6 @@
 -- What follows of the reading of scripts.
 use Rattle.std.specs.Prelude.{◌≡◌, ◌≢◌, ◌↔◌, ◌⊎◌, ℕ, List, [], None, Result, Ok, Err}
+use Rattle.std.specs.List.{AllByRecursion}
 use Rattle.std.specs.Str.Lines.{lines}
 use Rattle.ct_script.specs.Statements.{Statement, phases_of}
 use Rattle.ct_script.specs.Faults.{first_fault}
@@ -23,6 +24,11 @@ AreAnswered = (phases : List (List Statement)) → ArePlain phases → (answer :
 -- and phases that differ are written differently
 abbrev pub AreWrittenApart : Type 0
 AreWrittenApart = (phases other : List (List Statement)) → ArePlain phases → ArePlain other → phases ≢ other → written phases ≢ written other
+
+-- where no line is at fault, and none has a CR but the one before its LF, a script has the plain form of its phases, which reads the same
+abbrev pub HasPlainForm : Type 0
+HasPlainForm = (bytes : List ℕ) (script : Script) → AllByRecursion (AllByRecursion (λ byte. byte ≢ 13)) (lines bytes) → Reads bytes (Ok script)
+    → ArePlain (phases_of (lines bytes)) × Reads (written (phases_of (lines bytes))) (Ok script)
 
 -- two answers to the same bytes, in which memory was not wanting, are one
 abbrev pub OneAnswer : Type 0
