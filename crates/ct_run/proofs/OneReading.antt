@@ -14,7 +14,7 @@ use Rattle.ct_machine.specs.Play.{IsInOrder, IsWhole}
 use Rattle.ct_machine.specs.Transcript.{transcript}
 use Rattle.ct_machine.proofs.Plays.{whole_plays}
 use Rattle.ct_run.specs.declared.status.Status.TheVariants.{Done}
-use Rattle.ct_run.specs.Reading.{Reads, EndsNumber, IsBounded, IsInsert, IsDelete, IsChanges, IsLine}
+use Rattle.ct_run.specs.Reading.{Reads, EndsNumber, IsBounded, IsInsert, IsDelete, IsChanges}
 use Rattle.ct_run.specs.Script.{most_number, line_text, script_text, IsLater, IsScript}
 use Rattle.ct_run.specs.Top.{SourceChange, SinkChange, DiskChange, IsRunOf, Ends}
 use Rattle.ct_run.proofs.Later.{length-rest, script_begins, first_lines}
