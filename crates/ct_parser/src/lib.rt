@@ -1,8 +1,7 @@
-//! The grammar of the language, and how it is read.
+//! The grammar of statements as definitions, and the laws of what a parser answers.
 #![tactic(auto)]
 
 mod law;
-pub mod level;
 pub mod parts;
 
-pub use law::reads_exactly;
+pub use law::{answers_once, reads_exactly};

@@ -11,8 +11,8 @@ use Rattle.ct_grammar.proofs.Outcomes.{Prefix, Opening, ReadsRule, HasSpelling}
 use Rattle.ct_grammar.proofs.Sequences.{shape_then, shape_token, shape_of, some_token, some_of, some_then, law_token, law_of, law_then, law_weaken}
 use Rattle.ct_grammar.proofs.Choices.{shape_maybe, some_maybe, law_option}
 use Rattle.ct_grammar.proofs.Repetitions.{shape_many, some_many, law_repeat}
-use Rattle.ct_parser.specs.Grammar as g
-use Rattle.ct_parser.specs.ReadExpr as p
+use Rattle.ct_expressions.specs.Grammar as g
+use Rattle.ct_expressions.specs.ReadExpr as p
 
 -- ---- single lexemes
 

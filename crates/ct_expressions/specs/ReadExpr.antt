@@ -12,11 +12,11 @@ use Rattle.ct_grammar.specs.declared.fault.Fault.TheVariants.{TooDeep}
 use Rattle.ct_grammar.specs.Kinds.{Set, names}
 use Rattle.ct_grammar.specs.Rules.{numbers}
 use Rattle.ct_grammar.specs.Reading.{Reader, both, making, pick, ahead, option, repeat, guard, need, kind, name, number, variable, text, bytes}
-use Rattle.ct_parser.specs.declared.level.Entry.{Entry}
-use Rattle.ct_parser.specs.declared.level.Entry.TheVariants.{Whole, Negated, Signed}
-use Rattle.ct_parser.specs.declared.level.Test.{Test}
-use Rattle.ct_parser.specs.declared.level.Test.TheVariants as test
-use Rattle.ct_parser.specs.Grammar.{comparisons, signs, with_none, with_one, with_two, with_three, column_of, call_one, call_two, any_of, sum_of, term_of, comparison_of, null_test, tested}
+use Rattle.ct_expressions.specs.declared.level.Entry.{Entry}
+use Rattle.ct_expressions.specs.declared.level.Entry.TheVariants.{Whole, Negated, Signed}
+use Rattle.ct_expressions.specs.declared.level.Test.{Test}
+use Rattle.ct_expressions.specs.declared.level.Test.TheVariants as test
+use Rattle.ct_expressions.specs.Grammar.{comparisons, signs, with_none, with_one, with_two, with_three, column_of, call_one, call_two, any_of, sum_of, term_of, comparison_of, null_test, tested}
 
 -- ---- names
 

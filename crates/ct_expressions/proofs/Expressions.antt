@@ -18,13 +18,13 @@ use Rattle.ct_grammar.proofs.Repetitions.{shape_many, some_many, law_repeat}
 use Rattle.ct_grammar.proofs.Levels.{NextLevel, guarded}
 use Rattle.ct_grammar.proofs.LeadingTokens.{second_unmatched}
 use Rattle.ct_grammar.proofs.Fronts.{law_deeper}
-use Rattle.ct_parser.specs.declared.level.Entry.{Entry}
-use Rattle.ct_parser.specs.declared.level.Entry.TheVariants.{Whole, Negated, Signed}
-use Rattle.ct_parser.specs.Grammar as g
-use Rattle.ct_parser.specs.Grammar.{comparisons, signs, with_none, with_one, with_two, with_three, column_of, call_one, call_two}
-use Rattle.ct_parser.specs.ReadExpr as p
-use Rattle.ct_parser.proofs.NameLaws.{only, shape_kind, shape_name, table_name_shape, alias_shape, name_list_shape, column_shape, second_shape, some_one, some_name, some_table_name, some_alias, some_name_list, law_one, law_kind, law_name, law_number, law_table_name, law_alias, law_name_list, law_column}
-use Rattle.ct_parser.proofs.Calls.{shape_below, call_misses, law_call_or}
+use Rattle.ct_expressions.specs.declared.level.Entry.{Entry}
+use Rattle.ct_expressions.specs.declared.level.Entry.TheVariants.{Whole, Negated, Signed}
+use Rattle.ct_expressions.specs.Grammar as g
+use Rattle.ct_expressions.specs.Grammar.{comparisons, signs, with_none, with_one, with_two, with_three, column_of, call_one, call_two}
+use Rattle.ct_expressions.specs.ReadExpr as p
+use Rattle.ct_expressions.proofs.NameLaws.{only, shape_kind, shape_name, table_name_shape, alias_shape, name_list_shape, column_shape, second_shape, some_one, some_name, some_table_name, some_alias, some_name_list, law_one, law_kind, law_name, law_number, law_table_name, law_alias, law_name_list, law_column}
+use Rattle.ct_expressions.proofs.Calls.{shape_below, call_misses, law_call_or}
 
 -- ---- sets: how spellings begin, and by what they may go on
 

@@ -15,10 +15,10 @@ use Rattle.ct_grammar.specs.declared.kind.Kind.TheVariants as k
 use Rattle.ct_grammar.specs.Kinds.{Set}
 use Rattle.ct_grammar.specs.Lexemes.{Lexeme}
 use Rattle.ct_grammar.specs.Rules.{Rule, ◌and◌, ◌or◌, ◌of◌, maybe, many, never, below, one, kind, name, number, variable, text, bytes}
-use Rattle.ct_parser.specs.declared.level.Entry.{Entry}
-use Rattle.ct_parser.specs.declared.level.Entry.TheVariants.{Whole, Negated, Signed}
-use Rattle.ct_parser.specs.declared.level.Test.{Test}
-use Rattle.ct_parser.specs.declared.level.Test.TheVariants as test
+use Rattle.ct_expressions.specs.declared.level.Entry.{Entry}
+use Rattle.ct_expressions.specs.declared.level.Entry.TheVariants.{Whole, Negated, Signed}
+use Rattle.ct_expressions.specs.declared.level.Test.{Test}
+use Rattle.ct_expressions.specs.declared.level.Test.TheVariants as test
 
 -- ---- sets of kinds
 
