@@ -1,11 +1,7 @@
 -- The laws of the rules of data definition.
-use Rattle.std.proofs.Common.{◌≡◌, ℕ, suc, Bool, true, false, List, [], ◌∷◌, ◌++◌, Option, Some, None, refl}
-use Rattle.ct_types.specs.declared.stmt.Stmt.{Stmt}
-use Rattle.ct_grammar.specs.declared.kind.Kind.{Kind}
+use Rattle.std.proofs.Common.{ℕ, false, [], ◌∷◌, refl}
 use Rattle.ct_grammar.specs.declared.kind.Kind.TheVariants as k
 use Rattle.ct_grammar.specs.Kinds.{same, Set, has, apart, within, names}
-use Rattle.ct_grammar.specs.Lexemes.{Lexeme}
-use Rattle.ct_grammar.specs.Rules.{one, kind, name, number}
 use Rattle.ct_grammar.proofs.Outcomes.{ReadsRule, HasSpelling}
 use Rattle.ct_grammar.proofs.Sequences.{some_of, some_then, law_of, law_then, law_weaken}
 use Rattle.ct_grammar.proofs.Choices.{some_left, some_right, some_maybe, law_pick, law_option}
@@ -14,7 +10,7 @@ use Rattle.ct_grammar.proofs.EndedLists.{some_until, law_until}
 use Rattle.ct_ddl.specs.Grammar as g
 use Rattle.ct_ddl.specs.Grammar.{switches, units}
 use Rattle.ct_ddl.specs.ReadDdl as p
-use Rattle.ct_expressions.proofs.NameLaws.{some_one, some_kind, some_name, some_number, some_table_name, some_alias, some_name_list, law_one, law_kind, law_name, law_number, law_table_name, law_alias, law_name_list}
+use Rattle.ct_expressions.proofs.NameLaws.{some_one, some_kind, some_name, some_number, some_table_name, some_name_list, law_one, law_kind, law_name, law_number, law_table_name, law_name_list}
 
 -- ---- ALTER DATABASE
 

@@ -1,11 +1,11 @@
 -- Functions: a word, and what goes one level deeper behind its bracket. The words are names too.
-use Rattle.std.proofs.Common.{◌≡◌, ℕ, zero, suc, ◌<◌, inl, inr, Bool, true, false, List, [], ◌∷◌, ◌++◌, Ok, Err, refl, ap, ◌∙◌, arith}
+use Rattle.std.proofs.Common.{◌≡◌, ℕ, zero, suc, inr, true, false, List, [], ◌∷◌, ◌++◌, Err, refl, ap, ◌∙◌}
 use Rattle.ct_grammar.specs.declared.fault.Fault.TheVariants.{Syntax}
 use Rattle.ct_grammar.specs.Kinds.{Set, has, apart, within}
 use Rattle.ct_grammar.specs.Lexemes.{Lexeme, sees, matches}
 use Rattle.ct_grammar.specs.Rules.{token, ◌and◌, ◌or◌, ◌of◌, below}
 use Rattle.ct_grammar.specs.Reading.{Reader, and_then, ◌>>=◌, pure, expect, both, making, ahead}
-use Rattle.ct_grammar.proofs.FirstSets.{BeginsIn, NotNext}
+use Rattle.ct_grammar.proofs.FirstSets.{NotNext}
 use Rattle.ct_grammar.proofs.Outcomes.{Prefix, Opening, ReadsRule}
 use Rattle.ct_grammar.proofs.Sequences.{expect_takes, expect_misses, law_weaken}
 use Rattle.ct_grammar.proofs.Levels.{NextLevel}

@@ -1,16 +1,14 @@
 -- The laws of the rules of expressions.
-use Rattle.std.proofs.Common.{◌≡◌, ℕ, zero, suc, ◌<◌, inl, inr, Bool, true, false, List, [], ◌∷◌, ◌++◌, Option, Some, None, Err, refl, ap, arith}
+use Rattle.std.proofs.Common.{◌≡◌, ℕ, zero, suc, ◌<◌, inl, inr, true, false, List, [], ◌∷◌, ◌++◌, None, refl, arith}
 use Rattle.ct_types.specs.declared.expr.Expr.{Expr}
 use Rattle.ct_types.specs.declared.expr.Expr.TheVariants as e
-use Rattle.ct_grammar.specs.declared.kind.Kind.{Kind}
 use Rattle.ct_grammar.specs.declared.kind.Kind.TheVariants as k
-use Rattle.ct_grammar.specs.declared.fault.Fault.TheVariants.{TooDeep}
 use Rattle.ct_grammar.specs.Kinds.{same, Set, has, apart, within, names}
 use Rattle.ct_grammar.specs.Lexemes.{Lexeme, matches}
 use Rattle.ct_grammar.specs.Words.{name_in}
-use Rattle.ct_grammar.specs.Rules.{token, ◌and◌, ◌or◌, ◌of◌, maybe, below, one, kind, name, numbers}
+use Rattle.ct_grammar.specs.Rules.{token, ◌and◌, ◌or◌, ◌of◌, maybe, below, one, kind, numbers}
 use Rattle.ct_grammar.specs.Reading.{Outcome, Reader, ahead, guard, need}
-use Rattle.ct_grammar.proofs.FirstSets.{BeginsIn, NotNext, has_larger, elsewhere_or_behind}
+use Rattle.ct_grammar.proofs.FirstSets.{NotNext, has_larger, elsewhere_or_behind}
 use Rattle.ct_grammar.proofs.Outcomes.{Prefix, Finds, Opening, ReadsRule, HasSpelling}
 use Rattle.ct_grammar.proofs.Sequences.{shape_then, shape_token, shape_of, some_token, some_of, some_then, law_token, law_of, law_then, law_weaken}
 use Rattle.ct_grammar.proofs.Choices.{shape_or, shape_maybe, some_left, some_right, some_maybe, law_pick, law_option}

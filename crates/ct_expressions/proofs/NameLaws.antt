@@ -1,13 +1,11 @@
 -- The laws of names, and of single lexemes.
-use Rattle.std.proofs.Common.{◌≡◌, ℕ, suc, Bool, true, false, List, [], ◌∷◌, ◌++◌, refl}
-use Rattle.ct_types.specs.declared.expr.ObjectName.{ObjectName}
+use Rattle.std.proofs.Common.{◌≡◌, ℕ, true, false, [], ◌∷◌, refl}
 use Rattle.ct_grammar.specs.declared.kind.Kind.{Kind}
 use Rattle.ct_grammar.specs.declared.kind.Kind.TheVariants as k
 use Rattle.ct_grammar.specs.Kinds.{same, Set, has, apart, within, names}
-use Rattle.ct_grammar.specs.Lexemes.{Lexeme}
-use Rattle.ct_grammar.specs.Rules.{token, one, kind, name, number, numbers, variable}
+use Rattle.ct_grammar.specs.Rules.{one, kind, name, number, numbers, variable}
 use Rattle.ct_grammar.specs.Reading as r
-use Rattle.ct_grammar.proofs.Outcomes.{Prefix, Opening, ReadsRule, HasSpelling}
+use Rattle.ct_grammar.proofs.Outcomes.{Opening, ReadsRule, HasSpelling}
 use Rattle.ct_grammar.proofs.Sequences.{shape_then, shape_token, shape_of, some_token, some_of, some_then, law_token, law_of, law_then, law_weaken}
 use Rattle.ct_grammar.proofs.Choices.{shape_maybe, some_maybe, law_option}
 use Rattle.ct_grammar.proofs.Repetitions.{shape_many, some_many, law_repeat}

@@ -1,15 +1,13 @@
 -- How expressions are read: each reader mirrors a rule of the grammar, and chooses by the next lexemes.
-use Rattle.std.specs.Prelude.{ℕ, zero, suc, List, [], ◌∷◌, ◌++◌, Option, Some, None, Err}
+use Rattle.std.specs.Prelude.{ℕ, zero, suc, List, [], ◌∷◌, ◌++◌, Option, Err}
 use Rattle.ct_types.specs.declared.expr.Expr.{Expr}
 use Rattle.ct_types.specs.declared.expr.Expr.TheVariants as e
 use Rattle.ct_types.specs.declared.expr.Term.{Term}
 use Rattle.ct_types.specs.declared.expr.Scalar.{Scalar, roll-Scalar}
 use Rattle.ct_types.specs.declared.expr.RowVersion.{RowVersion, roll-RowVersion}
 use Rattle.ct_types.specs.declared.expr.ObjectName.{ObjectName}
-use Rattle.ct_grammar.specs.declared.kind.Kind.{Kind}
 use Rattle.ct_grammar.specs.declared.kind.Kind.TheVariants as k
 use Rattle.ct_grammar.specs.declared.fault.Fault.TheVariants.{TooDeep}
-use Rattle.ct_grammar.specs.Kinds.{Set, names}
 use Rattle.ct_grammar.specs.Rules.{numbers}
 use Rattle.ct_grammar.specs.Reading.{Reader, both, making, pick, ahead, option, repeat, guard, need, kind, name, number, variable, text, bytes}
 use Rattle.ct_expressions.specs.declared.level.Entry.{Entry}

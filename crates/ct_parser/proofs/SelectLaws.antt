@@ -1,30 +1,28 @@
 -- The laws of the rules of statements that hold expressions.
-use Rattle.std.proofs.Common.{◌≡◌, ℕ, suc, inl, inr, Bool, true, false, ◌&&◌, List, [], ◌∷◌, ◌++◌, length, Option, Some, None, Ok, Err, refl, ap, sym, ◌∙◌, append-nil, append_assoc, arith}
+use Rattle.std.proofs.Common.{◌≡◌, ℕ, suc, inl, inr, true, false, ◌&&◌, List, [], ◌∷◌, ◌++◌, length, Some, None, Ok, Err, refl, ap, sym, ◌∙◌, append-nil, append_assoc, arith}
 use Rattle.std.proofs.Math.Bool.{and-false}
 use Rattle.ct_types.specs.declared.expr.Expr.{Expr}
 use Rattle.ct_types.specs.declared.expr.Expr.TheVariants as e
-use Rattle.ct_types.specs.declared.stmt.Stmt.{Stmt}
 use Rattle.ct_types.specs.declared.stmt.Source.{Source}
 use Rattle.ct_types.specs.declared.stmt.Source.TheVariants as source_as
 use Rattle.ct_types.specs.declared.stmt.SelectItem.{SelectItem}
 use Rattle.ct_types.specs.declared.stmt.SelectItem.TheVariants as item_as
-use Rattle.ct_grammar.specs.declared.kind.Kind.{Kind}
 use Rattle.ct_grammar.specs.declared.kind.Kind.TheVariants as k
 use Rattle.ct_grammar.specs.declared.fault.Fault.{Fault}
 use Rattle.ct_grammar.specs.declared.fault.Fault.TheVariants.{Syntax, TooDeep}
 use Rattle.ct_grammar.specs.Kinds.{same, Set, has, apart, within, names}
 use Rattle.ct_grammar.specs.Lexemes.{Lexeme, sees, matches}
 use Rattle.ct_grammar.specs.Words.{name_in}
-use Rattle.ct_grammar.specs.Rules.{◌and◌, ◌or◌, ◌of◌, token, maybe, many, one, kind, name, numbers}
+use Rattle.ct_grammar.specs.Rules.{◌and◌, ◌or◌, ◌of◌, maybe, many, one, name, numbers}
 use Rattle.ct_grammar.specs.Reading.{Outcome, Reader, and_then, ◌>>=◌, pure, expect, both, making, option, need}
 use Rattle.ct_grammar.specs.Reading as r
-use Rattle.ct_grammar.proofs.FirstSets.{BeginsIn, NotNext, both_true, true_or_false, apart_excludes, has_larger, elsewhere_or_behind}
+use Rattle.ct_grammar.proofs.FirstSets.{NotNext, both_true, true_or_false, apart_excludes, has_larger, elsewhere_or_behind}
 use Rattle.ct_grammar.proofs.Outcomes.{Prefix, Finds, ReadsRule, HasSpelling}
 use Rattle.ct_grammar.proofs.Sequences.{expect_takes, expect_misses, some_of, some_then, law_of, law_then, law_weaken}
 use Rattle.ct_grammar.proofs.Choices.{shape_maybe, some_left, some_right, some_maybe, law_pick, law_option}
 use Rattle.ct_grammar.proofs.Repetitions.{some_many, law_repeat}
 use Rattle.ct_grammar.proofs.Lookahead.{reads_ahead, law_ahead, prefix_reaches_end}
-use Rattle.ct_grammar.proofs.LeadingTokens.{two_matched, three_matched, second_unmatched, traverses_two, traverses_three, first_reached, second_reached}
+use Rattle.ct_grammar.proofs.LeadingTokens.{two_matched, three_matched, traverses_two, traverses_three, first_reached, second_reached}
 use Rattle.ct_expressions.specs.declared.level.Entry.{Entry}
 use Rattle.ct_expressions.specs.declared.level.Entry.TheVariants.{Whole}
 use Rattle.ct_expressions.specs.Grammar.{column_of, with_none, with_one, with_two, with_three}
@@ -33,10 +31,10 @@ use Rattle.ct_parser.specs.Statements as s
 use Rattle.ct_parser.specs.Statements.{directions}
 use Rattle.ct_expressions.specs.ReadExpr as p
 use Rattle.ct_parser.specs.ReadStmt as q
-use Rattle.ct_expressions.proofs.NameLaws.{second_shape, alias_shape, some_one, some_kind, some_name, some_variable, some_table_name, some_alias, some_name_list, law_one, law_kind, law_name, law_variable, law_table_name, law_alias, law_name_list}
-use Rattle.ct_expressions.proofs.Expressions.{negation_starts, disjunction_goes, column_alone, law_expr, some_expr, law_tuple, some_tuple, law_version_tail, some_version_tail, law_version, some_version}
+use Rattle.ct_expressions.proofs.NameLaws.{second_shape, alias_shape, some_one, some_name, some_variable, some_table_name, some_alias, law_one, law_kind, law_name, law_variable, law_table_name, law_alias, law_name_list}
+use Rattle.ct_expressions.proofs.Expressions.{negation_starts, disjunction_goes, column_alone, law_expr, some_expr, law_tuple, some_tuple, law_version_tail, law_version, some_version}
 use Rattle.ct_ddl.proofs.DdlLaws.{law_alter, law_create, law_truncate, some_truncate, law_type_name, some_type_name}
-use Rattle.ct_parser.proofs.StatementLaws.{law_begin, law_commit, law_rollback, some_table_source, law_table_source, some_join_kind, law_join_kind}
+use Rattle.ct_parser.proofs.StatementLaws.{law_begin, law_commit, law_rollback, some_table_source, law_table_source, law_join_kind}
 
 -- an expression of a statement, by the levels of the statement
 abbrev X : ℕ → Entry → Expr → List Lexeme → Type 0

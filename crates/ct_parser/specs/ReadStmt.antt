@@ -1,7 +1,6 @@
 -- How statements are read: each reader mirrors a rule of the grammar, and chooses by the next lexemes.
-use Rattle.std.specs.Prelude.{ℕ, suc, ◌-◌, Bool, List, [], ◌∷◌, ◌++◌, length, Option, Some, None, Result, Ok, Err}
+use Rattle.std.specs.Prelude.{ℕ, suc, ◌-◌, List, [], ◌∷◌, length, Result, Ok, Err}
 use Rattle.ct_types.specs.declared.expr.Expr.{Expr}
-use Rattle.ct_types.specs.declared.expr.ObjectName.{ObjectName}
 use Rattle.ct_types.specs.declared.stmt.Stmt.{Stmt}
 use Rattle.ct_types.specs.declared.refusal.Refusal.{Refusal}
 use Rattle.ct_types.specs.declared.refusal.Refusal.TheVariants as refusal
@@ -25,11 +24,10 @@ use Rattle.ct_types.specs.declared.stmt.JoinKind.TheVariants as side
 use Rattle.ct_types.specs.declared.stmt.OrderItem.{OrderItem}
 use Rattle.ct_types.specs.declared.stmt.Isolation.{Isolation}
 use Rattle.ct_types.specs.declared.stmt.Isolation.TheVariants as isolation_as
-use Rattle.ct_grammar.specs.declared.kind.Kind.{Kind}
 use Rattle.ct_grammar.specs.declared.kind.Kind.TheVariants as k
 use Rattle.ct_grammar.specs.declared.fault.Fault.{Fault}
 use Rattle.ct_grammar.specs.declared.fault.Fault.TheVariants.{Memory, Syntax, TooDeep}
-use Rattle.ct_grammar.specs.Kinds.{Set, names}
+use Rattle.ct_grammar.specs.Kinds.{names}
 use Rattle.ct_grammar.specs.Lexemes.{Lexeme}
 use Rattle.ct_grammar.specs.Reading.{Outcome, Reader, both, making, pick, ahead, option, repeat, need, kind, name, variable}
 use Rattle.ct_expressions.specs.declared.level.Entry.{Entry}

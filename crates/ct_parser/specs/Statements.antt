@@ -1,8 +1,6 @@
 -- The grammar of statements, over that of expressions. `inner` is the rule of an expression.
 use Rattle.std.specs.Prelude.{ℕ, suc, Bool, true, false, List, [], ◌∷◌, Option, Some, None}
 use Rattle.ct_types.specs.declared.expr.Expr.{Expr}
-use Rattle.ct_types.specs.declared.expr.ObjectName.{ObjectName}
-use Rattle.ct_types.specs.declared.expr.RowVersion.{RowVersion}
 use Rattle.ct_types.specs.declared.stmt.Stmt.{Stmt}
 use Rattle.ct_types.specs.declared.stmt.Stmt.TheVariants as s
 use Rattle.ct_types.specs.declared.stmt.WriteStmt.{WriteStmt}
@@ -21,7 +19,6 @@ use Rattle.ct_types.specs.declared.stmt.JoinClause.TheVariants as join_as
 use Rattle.ct_types.specs.declared.stmt.JoinKind.{JoinKind}
 use Rattle.ct_types.specs.declared.stmt.JoinKind.TheVariants as side
 use Rattle.ct_types.specs.declared.stmt.OrderItem.{OrderItem}
-use Rattle.ct_types.specs.declared.stmt.Isolation.{Isolation}
 use Rattle.ct_types.specs.declared.stmt.Isolation.TheVariants as isolation_as
 use Rattle.ct_grammar.specs.declared.kind.Kind.{Kind}
 use Rattle.ct_grammar.specs.declared.kind.Kind.TheVariants as k
