@@ -6,10 +6,9 @@ ghost use Rattle.std.specs.Prelude.{◌≡◌, drop};
 use ct_faults::{NoDisk, StdSink, StdSource};
 use ct_run::{NoGate, Status, run_top};
 use std::alloc::{AllocError, Global};
-use std::env;
 use std::env::Args;
-use std::io;
 use std::process::ExitCode;
+use std::{env, io};
 
 /// All words of the command line, the program's name first. Where one is no text there are none, since such words are no
 /// form of the program's.
