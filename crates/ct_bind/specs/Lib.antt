@@ -1,0 +1,5 @@
+pub mod Sources
+pub mod Queries
+pub mod Writes
+pub mod Definitions
+pub mod Binding
