@@ -42,6 +42,10 @@ abbrev pub each_after : {A B : Type 0} → (List A → A → Answer B) → List 
 each_after step before [] = Ok []
 each_after step before (a ∷ more) = step before a >>= (λ b. each_after step (before ++ a ∷ []) more >>= (λ made. Ok (b ∷ made)))
 
+-- a list that is made already, and then what a walk makes
+abbrev pub onto : {B : Type 0} → List B → Answer (List B) → Answer (List B)
+onto made walk = walk >>= (λ more. Ok (made ++ more))
+
 -- What a function gives: the answer that is wanted, or want of memory.
 abbrev pub Gives : {A : Type 0} → Answer A → Answer A → Type 0
 Gives wanted (Ok a) = wanted ≡ Ok a
@@ -51,3 +55,8 @@ Gives wanted (Err refusal) = refusal ≢ Memory → wanted ≡ Err refusal
 abbrev pub Lends : {A : Type 0} → Answer A → Result (Bor A) Refusal → Type 0
 Lends wanted (Ok a) = wanted ≡ Ok a.now
 Lends wanted (Err refusal) = refusal ≢ Memory → wanted ≡ Err refusal
+
+-- the same of a function that adds to a list what it makes
+abbrev pub Adds : {A B : Type 0} → Answer (List A) → List A → Answer B → List A → Type 0
+Adds wanted old (Ok done) new = onto old wanted ≡ Ok new
+Adds wanted old (Err refusal) new = refusal ≢ Memory → wanted ≡ Err refusal

@@ -1,6 +1,6 @@
 -- Numbers of any width, and where each may stand. NVARCHAR(n) and VARBINARY(n) are as in T-SQL's documentation, a
 -- retention as in that of ALTER DATABASE SET options; which refusal answers is this project's own.
-use Rattle.std.specs.Prelude.{ℕ, ◌+◌, ◌-◌, ◌*◌, Bool, ◌&&◌, nat_le, List, [], ◌∷◌, if◌then◌else◌, Option, Some, None, pos, ℤ, Ok, Err}
+use Rattle.std.specs.Prelude.{ℕ, ◌+◌, ◌-◌, ◌*◌, ◌&&◌, nat_le, List, [], ◌∷◌, if◌then◌else◌, Option, Some, None, pos, ℤ, Ok}
 use Rattle.ct_types.specs.declared.schema.ColType.{ColType}
 use Rattle.ct_types.specs.declared.schema.ColType.TheVariants.{Int, BigInt, NVarChar, VarBinary}
 use Rattle.ct_types.specs.declared.stmt.TypeName.{TypeName}

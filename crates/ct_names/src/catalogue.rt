@@ -21,9 +21,7 @@ pub enum SystemTable {
 pub fn table_named<'a>(tables: &'a [Catalogued], name: &Text) -> Option<&'a Catalogued>
     ensures { option_copied result ≡ spec.table_named tables.now name.now }
 {
-    tables
-        .iter()
-        .find(|table| same_name(table.schema.name.as_str(), name.as_str()))
+    tables.iter().find(|table| same_name(table.schema.name.as_str(), name.as_str()))
 }
 
 /// The table of that name: 208 where there is none. A system table is none.
@@ -81,9 +79,7 @@ pub fn system_table(name: &Text) -> Option<SystemTable>
 pub fn is_declared(variables: &[Variable], name: &Text) -> bool
     ensures { result ≡ spec.is_declared variables.now name.now }
 {
-    variables
-        .iter()
-        .any(|variable| same_name(variable.name.as_str(), name.as_str()))
+    variables.iter().any(|variable| same_name(variable.name.as_str(), name.as_str()))
 }
 
 /// A place that is so many behind another. A list that is longer than its places can be counted is more than memory holds.
@@ -97,10 +93,7 @@ pub fn place_after(at: u32, more: usize) -> Result<u32, Memory>
 }
 
 #[tactic(auto, unfolding(crate::specs::Catalogue::variable_from))]
-fn find_variable(
-    variables: &[Variable],
-    name: &Text,
-) -> Result<Option<(u32, ColType)>, Memory>
+fn find_variable(variables: &[Variable], name: &Text) -> Result<Option<(u32, ColType)>, Memory>
     ensures { IfOk result (λ found. found ≡ spec.variable_from name.now 0 variables.now) }
 {
     let mut at = 0;

@@ -1,6 +1,5 @@
-use Rattle.std.proofs.Common.{◌≡◌, ◌∙◌, ℕ, ◌+◌, ◌-◌, ◌*◌, min, ap, drop, length, get_or, arith, List, [], rules}
+use Rattle.std.proofs.Common.{◌≡◌, ◌∙◌, ℕ, ◌+◌, ◌-◌, ◌*◌, min, ap, drop, get_or, arith, List, []}
 use Rattle.std.proofs.lemmas.List.{drop_more, drop_all}
-use Rattle.std.proofs.lemmas.Grind.{common_steps}
 use Rattle.ct_names.specs.Numbers.{number_of, number_from}
 use Rattle.ct_names.proofs.Digits.{number_from-capped}
 use Rattle.ct_names.proofs.numbers.capped.Goals as goal

@@ -1,6 +1,6 @@
 -- CREATE TABLE, and what switches tracking. The forms are T-SQL's; the limits, the numbers of the rules and their order are
 -- this project's own.
-use Rattle.std.specs.Prelude.{ℕ, ◌+◌, ◌*◌, Bool, true, false, not, ◌&&◌, ◌||◌, nat_le, nat_lt, ◌==◌, codes, List, [], ◌∷◌, ◌++◌, filter, length, map, take, find, Option, Some, None, is_some, if◌then◌else◌, Ok, Err}
+use Rattle.std.specs.Prelude.{ℕ, ◌+◌, Bool, true, false, not, ◌&&◌, ◌||◌, nat_le, nat_lt, ◌==◌, codes, List, [], ◌∷◌, ◌++◌, filter, length, map, take, Option, Some, None, is_some, if◌then◌else◌, Ok, Err}
 use Rattle.std.specs.List.{list_any, list_all}
 use Rattle.ct_types.specs.declared.bound.Bound.{Bound}
 use Rattle.ct_types.specs.declared.bound.Bound.TheVariants.{AcceptOption, AlterDatabase, CreateTable, EnableTracking, DisableTracking}
@@ -19,7 +19,7 @@ use Rattle.ct_types.specs.declared.stmt.TrackingOptions.{TrackingOptions}
 use Rattle.ct_types.specs.declared.refusal.Refusal.TheVariants.{Exists, BadTable, TooMany, AlreadyTracked, TrackingOff, TablesTracked}
 use Rattle.ct_model.specs.Schemas.{change_columns}
 use Rattle.ct_names.specs.Answers.{Answer, ◌>>=◌, ◌>>◌, demand, or_refuse, each}
-use Rattle.ct_names.specs.Names.{same, is_among, place_of, table_name}
+use Rattle.ct_names.specs.Names.{same, is_among, table_name}
 use Rattle.ct_names.specs.Numbers.{column_type, retention_of}
 use Rattle.ct_names.specs.Catalogue.{table_named, existing_table, tracked_table}
 
@@ -51,17 +51,26 @@ says_key column = list_any is_key_rule column.rules
 
 -- ---- the key that is written
 
-abbrev pub listed_keys : Option (List (List ℕ)) → ℕ
-listed_keys None = 0
-listed_keys (Some names) = 1
+abbrev pub listed_key : Option (List (List ℕ)) → List ColumnRule
+listed_key None = []
+listed_key (Some names) = PrimaryKey ∷ []
 
-unfoldable pub keys_in : List ColumnDef → ℕ
-keys_in [] = 0
-keys_in (column ∷ more) = length (filter is_key_rule column.rules) + keys_in more
+unfoldable pub keys_in : List ColumnDef → List ColumnRule
+keys_in [] = []
+keys_in (column ∷ more) = filter is_key_rule column.rules ++ keys_in more
 
--- how many primary keys are written
-unfoldable pub key_count : List ColumnDef → Option (List (List ℕ)) → ℕ
-key_count columns key = keys_in columns + listed_keys key
+-- each primary key that is written
+unfoldable pub keys_written : List ColumnDef → Option (List (List ℕ)) → List ColumnRule
+keys_written columns key = keys_in columns ++ listed_key key
+
+abbrev pub is_there : List ColumnRule → Bool
+is_there [] = false
+is_there (key ∷ more) = true
+
+abbrev pub is_repeated : List ColumnRule → Bool
+is_repeated [] = false
+is_repeated (key ∷ []) = false
+is_repeated (key ∷ other ∷ more) = true
 
 abbrev pub names_in : Option (List (List ℕ)) → List (List ℕ)
 names_in None = []
@@ -84,9 +93,12 @@ unfoldable pub has_clear_nulls : Option (List (List ℕ)) → ColumnDef → Bool
 has_clear_nulls key column = not (says_null column) || (not (says_not_null column) && not (is_of_key key column))
 
 -- rule 3: columns have different names, and no column of the key one that CHANGETABLE shows beside the key
+unfoldable pub is_named_in : List ℕ → List ColumnDef → Bool
+is_named_in name columns = list_any (λ column. same name column.name) columns
+
 unfoldable pub are_different : List ColumnDef → Bool
 are_different [] = true
-are_different (column ∷ more) = not (is_among column.name (map (λ other. other.name) more)) && are_different more
+are_different (column ∷ more) = not (is_named_in column.name more) && are_different more
 
 unfoldable pub is_free_name : List ℕ → Bool
 is_free_name name = not (is_among name change_columns)
@@ -98,27 +110,33 @@ defined_column key column = do
   Ok (record { name = column.name; kind = kind; nullable = not (says_not_null column) && not (is_of_key key column) })
 
 -- rule 5: the key is one column of the table
-unfoldable pub key_place : List ColumnDef → List (List ℕ) → Answer ℕ
-key_place columns [] = Err (BadTable 5)
-key_place columns (name ∷ []) = or_refuse (place_of name (map (λ column. column.name) columns)) (BadTable 5)
-key_place columns (name ∷ other ∷ more) = Err (BadTable 5)
+unfoldable pub id_from : List ℕ → ℕ → List ColumnDef → Option ℕ
+id_from name id [] = None
+id_from name id (column ∷ more) = if same column.name name then Some id else id_from name (id + 1) more
+
+unfoldable pub key_id : List ColumnDef → List (List ℕ) → Answer ℕ
+key_id columns [] = Err (BadTable 5)
+key_id columns (name ∷ []) = or_refuse (id_from name 1 columns) (BadTable 5)
+key_id columns (name ∷ other ∷ more) = Err (BadTable 5)
 
 -- rule 6: the schema is not `sys`
 unfoldable pub is_in_sys : List ℕ → Bool
 is_in_sys name = nat_lt 4 (length name) && same (take 4 name) (codes "sys.")
 
-unfoldable pub bad_table : ℕ → Bool → Answer (Unit {0})
-bad_table rule holds = demand holds (BadTable rule)
+-- the first three
+unfoldable pub first_rules : List ColumnDef → Option (List (List ℕ)) → List (List ℕ) → Answer (Unit {0})
+first_rules columns key names = do
+  demand (is_there (keys_written columns key)) (BadTable 1)
+  demand (not (is_repeated (keys_written columns key)) && list_all (has_clear_nulls key) columns) (BadTable 2)
+  demand (are_different columns && list_all is_free_name names) (BadTable 3)
 
 unfoldable pub schema_of : ℕ → List ℕ → List ColumnDef → Option (List (List ℕ)) → Answer Schema
 schema_of id name columns key = do
-  demand (nat_le 1 (key_count columns key)) (BadTable 1)
-  demand (nat_le (key_count columns key) 1 && list_all (has_clear_nulls key) columns) (BadTable 2)
-  demand (are_different columns && list_all is_free_name (key_names columns key)) (BadTable 3)
+  first_rules columns key (key_names columns key)
   made ← each (defined_column key) columns
-  place ← key_place columns (key_names columns key)
+  own ← key_id columns (key_names columns key)
   demand (not (is_in_sys name)) (BadTable 6)
-  Ok (record { id = id; name = name; columns = made; key = (place + 1) ∷ [] })
+  Ok (record { id = id; name = name; columns = made; key = own ∷ [] })
 
 -- ---- statements
 

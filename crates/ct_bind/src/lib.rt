@@ -1,5 +1,0 @@
-//! Binding of statements: what a statement means in a catalogue and among variables, or the first refusal.
-#![tactic(auto)]
-
-mod sources;
-mod writes;
