@@ -1,0 +1,8 @@
+//! What CREATE TABLE and the statements that switch tracking come to, or their first refusal.
+#![tactic(auto)]
+
+mod table;
+mod tracking;
+
+pub use table::create;
+pub use tracking::{alter_database, disable, enable};
