@@ -1,5 +1,5 @@
 #!/bin/sh
-# measure.sh CRATES MAIN: runs the program text MAIN over this repository's crates CRATES, with no proof, in a folder of its own.
+# measure.sh CRATES MAIN: proves and runs the program text MAIN over this repository's crates CRATES, in a folder of its own.
 # A measurement is no test: the gate does not run it.
 set -e
 top=$(cd "$(dirname "$0")/.." && pwd)
@@ -10,4 +10,7 @@ mkdir -p "$work/crates/ct_bench/src"
 echo "ct_bench: $1" >>"$work/crates.txt"
 cp "$2" "$work/crates/ct_bench/src/main.rt"
 cd "$work/crates/ct_bench"
-rt try 2>&1 | grep -v '^rt:' || true
+if ! RT_SECONDS=600 rt run 2>"$work/log"; then
+  tail -20 "$work/log"
+  exit 1
+fi
