@@ -1,4 +1,4 @@
--- How great the versions of kept commits and of net rows are.
+-- How great the versions of kept commits and of net rows are. This project's own.
 use Rattle.std.specs.Prelude.{ℕ, ◌≤◌, List, Option, None, Some}
 use Rattle.std.specs.List.{AllByRecursion}
 use Rattle.ct_types.specs.declared.entry.Kept.{Kept}

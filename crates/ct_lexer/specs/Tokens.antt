@@ -48,7 +48,7 @@ pub record IsQuoted (word more : List ℕ) : Type 0 where
   pub spelled : word ≡ 39 ∷ (spelling value ++ 39 ∷ [])
   pub closed : Stops byte.Quote more
 
--- the same behind an N
+-- the same behind an `N` or an `n`
 pub record IsMarked (word more : List ℕ) : Type 0 where
   pub mark : ℕ
   pub quoted : List ℕ
@@ -59,7 +59,7 @@ pub record IsMarked (word more : List ℕ) : Type 0 where
 abbrev pub IsText : List ℕ → List ℕ → Type 0
 IsText word more = IsQuoted word more ⊎ IsMarked word more
 
--- `0x` and an even number of hexadecimal digits, and no more of them behind it
+-- `0x` or `0X` and an even number of hexadecimal digits, and no more of them behind it
 pub record IsBytes (word more : List ℕ) : Type 0 where
   pub mark : ℕ
   pub digits : List ℕ

@@ -7,6 +7,7 @@ mod lexer;
 mod scan;
 mod token;
 
+pub use byte::ByteClass;
 pub use law::one_cutting;
 pub use lexer::tokens;
 pub use token::{LexError, Token, TokenKind};

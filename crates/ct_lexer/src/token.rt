@@ -13,9 +13,9 @@ pub enum TokenKind {
     Variable,
     /// Digits.
     Number,
-    /// `'..'` or `N'..'`, with each quote inside spelling.
+    /// `'..'`, `N'..'` or `n'..'`, with each quote inside written twice.
     Text,
-    /// `0x` and an even number of hexadecimal digits, possibly none.
+    /// `0x` or `0X` and an even number of hexadecimal digits, possibly none.
     Bytes,
     /// One of `( ) , . ; = <> != < <= > >= + - *`.
     Sign,

@@ -1,9 +1,10 @@
--- The machine: the database at its opening, the entries since, and what the next statement needs.
+-- The machine: the database at its opening, the entries since, and what the next statement needs. This project's own.
 use Rattle.std.specs.Prelude.{ℕ, ◌+◌, List, []}
 use Rattle.ct_types.specs.declared.entry.Entry.{Entry}
 use Rattle.ct_model.specs.declared.db.Db.{Db}
 use Rattle.ct_model.specs.Apply.{replay}
 
+-- the state of the server, as the entries that were committed
 pub record Machine : Type 0 where
   -- the database at the opening
   pub first : Db

@@ -1,4 +1,4 @@
--- When a journal is a play of the machine, and in which order its statements stand.
+-- When a journal is a play of the machine, and in which order its statements stand. This project's own.
 use Rattle.std.specs.Prelude.{◌≡◌, ℕ, ◌+◌, Bool, true, false, List, [], ◌∷◌, ◌⊎◌, if◌then◌else◌}
 use Rattle.std.specs.List.{list_any}
 use Rattle.ct_types.specs.declared.refusal.Refusal.TheVariants.{Memory}

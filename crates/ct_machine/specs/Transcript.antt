@@ -1,4 +1,5 @@
--- The text of a journal.
+-- The text of a journal. This project's own; the error numbers are those of
+-- https://learn.microsoft.com/sql/relational-databases/errors-events/database-engine-events-and-errors.
 use Rattle.std.specs.Prelude.{ℕ, ◌+◌, ◌/◌, ◌%◌, nat_lt, ◌==◌, ◌||◌, codes, List, [], ◌∷◌, ◌++◌, length, flat_map, Option, None, Some, if◌then◌else◌}
 use Rattle.std.specs.Fmt.{decimal, signed_decimal}
 use Rattle.ct_types.specs.declared.value.Value.{Value}
@@ -19,9 +20,11 @@ use Rattle.ct_machine.specs.Step.{op_name}
 
 -- ---- values
 
+-- a digit of base 16, with small letters from 10 on
 abbrev pub lower_digit : ℕ → ℕ
 lower_digit n = if nat_lt n 10 then n + 48 else n + 87
 
+-- a digit of base 16, with capital letters from 10 on
 abbrev pub upper_digit : ℕ → ℕ
 upper_digit n = if nat_lt n 10 then n + 48 else n + 55
 
@@ -29,6 +32,7 @@ upper_digit n = if nat_lt n 10 then n + 48 else n + 55
 abbrev pub lower_hex : ℕ → List ℕ
 lower_hex byte = lower_digit (byte / 16) ∷ lower_digit (byte % 16) ∷ []
 
+-- the same with capital letters
 abbrev pub upper_hex : ℕ → List ℕ
 upper_hex byte = upper_digit (byte / 16) ∷ upper_digit (byte % 16) ∷ []
 
@@ -41,6 +45,7 @@ escaped byte =
     else if nat_lt byte 32 || byte == 127 then codes "\\x" ++ lower_hex byte
     else byte ∷ []
 
+-- a value: NULL, a number in decimal, a text between quotes, or bytes in hexadecimal digits
 abbrev pub value_text : Value → List ℕ
 value_text Null = codes "NULL"
 value_text (Int n) = signed_decimal n
@@ -52,24 +57,30 @@ abbrev pub joined : List ℕ → List (List ℕ) → List ℕ
 joined by [] = []
 joined by (first ∷ more) = first ++ flat_map (λ text. by ++ text) more
 
+-- values with a separator between each two
 abbrev pub values_text : List ℕ → List Value → List ℕ
 values_text by [] = []
 values_text by (first ∷ more) = value_text first ++ flat_map (λ value. by ++ value_text value) more
 
+-- the line of a row
 abbrev pub row_text : Row → List ℕ
 row_text row = values_text (codes " | ") row.0 ++ codes "\n"
 
+-- a key, whose values have commas between them
 abbrev pub key_text : Key → List ℕ
 key_text key = values_text (codes ", ") key.0
 
 -- ---- refusals
 
+-- a line that ends with a name
 abbrev pub named : List ℕ → List ℕ → List ℕ
 named words name = words ++ name ++ codes "\n"
 
+-- a line that ends with a number
 abbrev pub counted : List ℕ → ℕ → List ℕ
 counted words n = words ++ decimal n ++ codes "\n"
 
+-- the line of a refusal: its number or its name, and what it names
 unfoldable pub refusal_text : Refusal → List ℕ
 refusal_text (refusal.Syntax at) = counted (codes "Msg 102 at ") at
 refusal_text (refusal.NoColumn name) = named (codes "Msg 207 ") name
@@ -106,6 +117,7 @@ refusal_text (refusal.CountClash wanted got) = codes "Refused CountClash " ++ de
 refusal_text (refusal.TooMany limit) = counted (codes "Refused TooMany ") limit
 refusal_text (refusal.Exhausted limit) = counted (codes "Refused Exhausted ") limit
 refusal_text (refusal.Stopped event) = counted (codes "Refused Stopped at ") event
+refusal_text refusal.NotBuilt = codes "Refused NotBuilt\n"
 
 -- ---- replies
 
@@ -113,6 +125,7 @@ refusal_text (refusal.Stopped event) = counted (codes "Refused Stopped at ") eve
 abbrev pub touched_text : Touched → List ℕ
 touched_text touched = op_name touched.op ++ codes " " ++ key_text touched.key ++ codes "\n"
 
+-- the lines of a step of synchronisation: what it came to, and then each net change that it brought
 unfoldable pub verdict_text : Verdict → List ℕ
 verdict_text (Initialised version rows) = codes "Initialised version " ++ decimal version ++ codes " rows " ++ decimal rows ++ codes "\n"
 verdict_text (Synced from to changes) =
@@ -121,13 +134,16 @@ verdict_text (Looked version min) = codes "Looked version " ++ decimal version +
 verdict_text (Reinitialise noted min) = codes "Reinitialise noted " ++ decimal noted ++ codes " minimum " ++ decimal min ++ codes "\n"
 verdict_text NotTracked = codes "NotTracked\n"
 
+-- the lines of a client's copy: its version and its rows
 abbrev pub copy_text : Option CopyOut → List ℕ
 copy_text None = codes "copy none\n"
 copy_text (Some copied) = codes "copy version " ++ decimal copied.noted ++ codes " rows " ++ decimal (length copied.rows) ++ codes "\n" ++ flat_map row_text copied.rows
 
+-- the lines of a SELECT's answer: the names, each row, and how many rows there are
 abbrev pub grid_text : Grid → List ℕ
 grid_text grid = joined (codes " | ") grid.names ++ codes "\n" ++ flat_map row_text grid.rows ++ codes "rows " ++ decimal (length grid.rows) ++ codes "\n"
 
+-- the lines of a reply
 unfoldable pub reply_text : Reply → List ℕ
 reply_text reply.Done = codes "OK\n"
 reply_text (reply.Count n) = counted (codes "rows ") n
@@ -143,6 +159,7 @@ reply_text (reply.Refused refused) = refusal_text refused
 unfoldable pub head_text : ℕ → ℕ → ℕ → List ℕ
 head_text place session number = codes "[" ++ decimal place ++ codes "] " ++ decimal session ++ codes "." ++ decimal number ++ codes "\n"
 
+-- the head of a block and the lines of its reply
 abbrev pub block_text : ℕ → Journaled → List ℕ
 block_text place one = head_text place one.session one.number ++ reply_text one.reply
 

@@ -6,6 +6,9 @@ mod checks;
 mod laws;
 mod outcome;
 
-pub use checks::{draws_version, wants_memory};
-pub use laws::{one_whole_play, plays_go_on};
+pub use checks::{draws_version, has_number, wants_memory};
+pub use laws::{
+    entries_apply, entries_draw, one_whole_play, opens_sound, plays_go_on, plays_keep_valid,
+    sound_is_valid, stays_sound,
+};
 pub use outcome::Outcome;

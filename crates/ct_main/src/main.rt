@@ -8,11 +8,17 @@ use ct_run::{NoGate, Status, run_top};
 use std::alloc::{AllocError, Global};
 use std::env;
 use std::env::Args;
+use std::io;
 use std::process::ExitCode;
 
-/// All words of the command line, the program's name first.
-fn all_words(alloc: Global, args: Args) -> Result<Vec<String>, AllocError> {
-    args.collect(alloc)
+/// All words of the command line, the program's name first. Where one is no text there are none, since such words are no
+/// form of the program's.
+fn all_words(alloc: Global, args: io::Result<Args>) -> Result<Vec<String>, AllocError> {
+    match args {
+        Ok(words) => words.collect(alloc),
+        Err(error) if error.kind() == io::ErrorKind::OutOfMemory => Err(AllocError),
+        Err(_) => Ok(Vec::new(alloc)),
+    }
 }
 
 /// The words after the program's name.
@@ -26,11 +32,7 @@ fn after_name(all: &[String]) -> &[String]
 }
 
 fn main(rt: HostRuntime) -> ExitCode {
-    // arguments that are no text are no words of the program
-    let Ok(args) = env::args(&rt) else {
-        return ExitCode::from(Status::Usage.code());
-    };
-    let Ok(all) = all_words(rt.alloc(), args) else {
+    let Ok(all) = all_words(rt.alloc(), env::args(&rt)) else {
         return ExitCode::from(Status::Memory.code());
     };
     let mut source = StdSource::new(&rt);

@@ -81,3 +81,9 @@ found_itself P (t ∷ ts) id found =
     let step : (b : Bool) → b ≡ eqb t.schema.id id → IsSomeAnd (cond b (Some t) (table_of ts id)) P → IsSomeAnd (cond b (Some t) (table_of ts id)) (λ t. (t.schema.id ≡ id) × P t) =
     elim [ true ↦ (λ e p. (eqb-true _ _ (sym e), p)) | false ↦ (λ e p. found_itself P ts id p) ] in
     step (eqb t.schema.id id) refl found
+
+-- a table that is found has the id that was looked for
+pub found_id : (tables : List Table) (id : ℕ) (table : Table) → table_of tables id ≡ Some table → table.schema.id ≡ id
+found_id tables id table is =
+    let found : IsSomeAnd (table_of tables id) (λ t. Unit {0}) = rw is tt in
+    (subst (λ o. IsSomeAnd o (λ t. (t.schema.id ≡ id) × Unit {0})) is (found_itself (λ t. Unit {0}) tables id found)).0

@@ -4,11 +4,13 @@ pub mod Each
 pub mod Fitting
 pub mod Following
 pub mod Found
+pub mod InTurn
 pub mod Keeping
 pub mod LastOf
 pub mod Members
 pub mod Moving
 pub mod NetKeys
+pub mod NetTelling
 pub mod Pushed
 pub mod Rises
 pub mod Rising
@@ -16,3 +18,4 @@ pub mod RowAt
 pub mod SameKey
 pub mod Somewhere
 pub mod Staying
+pub mod Validity

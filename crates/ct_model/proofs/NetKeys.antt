@@ -29,15 +29,15 @@ IsOf id key change = (change.table ≡ id) × (change.key ≡ key)
 abbrev pub HasAbove : ℕ → ℕ → Key → Kept → Type 0
 HasAbove id floor key kept = (floor < kept.version) × Somewhere (IsOf id key) kept.changes
 
-abbrev HasKey : Key → Dated → Type 0
+abbrev pub HasKey : Key → Dated → Type 0
 HasKey key dated = dated.change.key ≡ key
 
-dated_has : (id floor : ℕ) (key : Key) (kept : Kept) → HasAbove id floor key kept → Somewhere (HasKey key) (dated_in id floor kept)
+pub dated_has : (id floor : ℕ) (key : Key) (kept : Kept) → HasAbove id floor key kept → Somewhere (HasKey key) (dated_in id floor kept)
 dated_has id floor key kept has =
     rw (lt-ltb floor kept.version has.0)
     (some_map (IsOf id key) _ _ (λ change is. is.1) _ (some_filter (IsOf id key) _ (λ change is. eq-eqb change.table id is.0) kept.changes has.1))
 
-dated_tells : (id floor : ℕ) (key : Key) (kept : Kept) → Somewhere (HasKey key) (dated_in id floor kept) → HasAbove id floor key kept
+pub dated_tells : (id floor : ℕ) (key : Key) (kept : Kept) → Somewhere (HasKey key) (dated_in id floor kept) → HasAbove id floor key kept
 dated_tells id floor key kept some =
     let dated : List Change → List Dated = (λ changes. map (λ change. record { version = kept.version; change = change }) (filter (λ change. change.table == id) changes)) in
     let step : (b : Bool) → b ≡ nat_lt floor kept.version → Somewhere (HasKey key) (cond b (dated kept.changes) []) → HasAbove id floor key kept =
@@ -110,7 +110,7 @@ last_of_window changes key some =
     (some_filter (HasKey key) _ (λ dated is. ap (λ k. is_eq (key_cmp k key)) is ∙ ap is_eq (tied_itself key_cmp_total key)) changes some)
     (all_filter (λ dated. Unit {0}) (HasKey key) _ (λ dated e u. key_cmp_exact dated.change.key key (equal_of _ e)) changes (all_everywhere _ (λ dated. tt) changes))
 
-rows_have : (schema : Schema) (masks : Bool) (changes : List Dated) (key : Key) → Somewhere (HasKey key) changes
+pub rows_have : (schema : Schema) (masks : Bool) (changes : List Dated) (key : Key) → Somewhere (HasKey key) changes
     → Somewhere (λ row. row.key ≡ key) (net_rows schema masks changes)
 rows_have schema masks changes key some =
     some_filter_map (λ k. k ≡ key) (λ row. row.key ≡ key) (λ k. option_map (row_of schema masks (window changes k)) (last_of (window changes k)))
@@ -118,7 +118,7 @@ rows_have schema masks changes key some =
     (mapped_is (λ row. row.key ≡ key) (row_of schema masks (window changes key)) (last_of (window changes key)) (last_of_window changes key some)))
     (keys_of changes) (keys_have changes [] key some)
 
-rows_tell : (schema : Schema) (masks : Bool) (changes : List Dated) (key : Key)
+pub rows_tell : (schema : Schema) (masks : Bool) (changes : List Dated) (key : Key)
     → Somewhere (λ row. row.key ≡ key) (net_rows schema masks changes) → Somewhere (HasKey key) changes
 rows_tell schema masks changes key some =
     some_constant _ (keys_of changes)

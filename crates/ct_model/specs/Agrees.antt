@@ -1,4 +1,5 @@
--- When a client's copy of a table agrees with a database: the net changes lead from the one to the other.
+-- When a client's copy of a table agrees with a database: the net changes lead from the one to the other. This project's
+-- own, for the recipe of https://learn.microsoft.com/sql/relational-databases/track-changes/work-with-change-tracking-sql-server.
 use Rattle.std.specs.Prelude.{◌≡◌, ℕ, ◌≤◌, List, map, Some, Contains, pos}
 use Rattle.std.specs.Option.{IfSome}
 use Rattle.ct_types.specs.declared.value.Key.{Key}

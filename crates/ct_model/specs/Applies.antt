@@ -1,4 +1,4 @@
--- When an entry applies to a database.
+-- When an entry applies to a database. This project's own.
 use Rattle.std.specs.Prelude.{◌≡◌, ◌≢◌, ℕ, ◌+◌, ◌^◌, ◌≤◌, ◌<◌, Bool, true, false, List, [], ◌∷◌, length, map, Option, None, Some, IsSome, is_some, if◌then◌else◌}
 use Rattle.std.specs.List.{AllByRecursion, list_any}
 use Rattle.std.specs.Option.{IsSomeAnd}
@@ -119,3 +119,8 @@ pub record Applies (db : Db) (entry : Entry) : Type 0 where
 -- an entry that applies leaves a valid database valid
 abbrev pub StaysValid : Type 0
 StaysValid = (db : Db) (entry : Entry) → IsValid db → Applies db entry → IsValid (apply db entry)
+
+-- entries apply in turn: each to what those before it made
+abbrev pub ApplyInTurn : Db → List Entry → Type 0
+ApplyInTurn db [] = Unit {0}
+ApplyInTurn db (entry ∷ entries) = Applies db entry × ApplyInTurn (apply db entry) entries

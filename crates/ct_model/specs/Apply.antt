@@ -1,4 +1,5 @@
--- What one committed entry makes of a database.
+-- What one committed entry makes of a database. The entries are this project's own; what they do to the tracking of a table
+-- is that of https://learn.microsoft.com/sql/relational-databases/track-changes/manage-change-tracking-sql-server.
 use Rattle.std.specs.Prelude.{ℕ, Bool, max, ◌==◌, ◌&&◌, List, [], ◌∷◌, ◌++◌, map, filter, fold, Option, None, Some, if◌then◌else◌}
 use Rattle.std.specs.List.{list_any}
 use Rattle.ct_types.specs.declared.tracked.Tracked.{Tracked}
@@ -57,6 +58,7 @@ keep_after (Enable id masks) keep = keep
 keep_after (Disable id) keep = keep
 keep_after (Raise minima) keep = keep
 
+-- the change that a tracked write records: all of it but the row
 abbrev pub change_of : Write → Change
 change_of write = record { table = write.table; key = write.key; op = write.op; mask = write.mask; context = write.context }
 

@@ -1,4 +1,4 @@
--- Names of two parts.
+-- Names of two parts. This project's own.
 use Rattle.std.specs.Prelude.{◌≡◌, ℕ, ◌+◌, codes, List, ◌++◌, take, drop, slice_get, Some}
 use Rattle.ct_model.specs.Names.{IsName}
 

@@ -1,4 +1,4 @@
--- Laws about entries that apply, beside that a valid database stays valid.
+-- Laws about entries that apply, beside that one of them leaves a valid database valid. This project's own.
 use Rattle.std.specs.Prelude.{◌≡◌, ℕ, ◌≤◌, ◌<◌, true, List, Some}
 use Rattle.std.specs.Option.{IfSome}
 use Rattle.ct_types.specs.declared.value.Row.{Row}
@@ -7,8 +7,8 @@ use Rattle.ct_types.specs.declared.entry.Act.TheVariants.{Commit, Define, Trunca
 use Rattle.ct_types.specs.declared.entry.Entry.{Entry}
 use Rattle.ct_model.specs.declared.db.Db.{Db}
 use Rattle.ct_model.specs.Agrees.{Agrees}
-use Rattle.ct_model.specs.Applies.{Applies}
-use Rattle.ct_model.specs.Apply.{apply, no_db}
+use Rattle.ct_model.specs.Applies.{Applies, ApplyInTurn}
+use Rattle.ct_model.specs.Apply.{apply, no_db, replay}
 use Rattle.ct_model.specs.Tables.{table_of}
 use Rattle.ct_model.specs.Valid.{IsValid}
 use Rattle.ct_model.specs.Versions.{minimum}
@@ -47,3 +47,7 @@ RowsAgree = (db : Db) (id : ℕ) → IfSome (table_of db.tables id) (λ table. A
 -- the empty database is valid
 abbrev pub EmptyIsValid : Type 0
 EmptyIsValid = IsValid no_db
+
+-- entries that apply in turn leave a valid database valid
+abbrev pub ReplayStaysValid : Type 0
+ReplayStaysValid = (db : Db) (entries : List Entry) → IsValid db → ApplyInTurn db entries → IsValid (replay db entries)

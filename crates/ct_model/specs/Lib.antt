@@ -8,5 +8,6 @@ pub mod Names
 pub mod Net
 pub mod Schemas
 pub mod Tables
+pub mod Tells
 pub mod Valid
 pub mod Versions

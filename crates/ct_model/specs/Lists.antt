@@ -1,4 +1,4 @@
--- Words on lists.
+-- Words on lists. This project's own.
 use Rattle.std.specs.Prelude.{List, [], ◌∷◌}
 use Rattle.std.specs.List.{AllByRecursion}
 

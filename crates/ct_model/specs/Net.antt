@@ -1,4 +1,6 @@
 -- The net changes of a table since a version: one row for each key that changed.
+-- Source: https://learn.microsoft.com/sql/relational-databases/system-functions/changetable-transact-sql; which operation several
+-- changes of a key give, and where the window starts, are this project's own.
 use Rattle.std.specs.Prelude.{ℕ, ◌+◌, ◌-◌, ℤ, pos, negsuc, Bool, true, false, not, nat_lt, ◌==◌, ◌&&◌, ◌||◌, max, List, [], ◌∷◌, ◌++◌, map, filter, fold, flat_map, bit_or, Option, None, Some, if◌then◌else◌}
 use Rattle.std.specs.Int.{bit_at}
 use Rattle.std.specs.Option.{option_map}
@@ -24,11 +26,12 @@ floor_of min None = min
 floor_of min (Some (pos last)) = max min last
 floor_of min (Some (negsuc n)) = min
 
--- the kept changes of a table above a version, in the order of the commits
+-- the changes of a table in a kept commit, where that is above a version, in their order
 abbrev pub dated_in : ℕ → ℕ → Kept → List Dated
 dated_in table floor kept =
     if nat_lt floor kept.version then map (λ change. record { version = kept.version; change = change }) (filter (λ change. change.table == table) kept.changes) else []
 
+-- the same of all kept commits
 abbrev pub changes_above : ℕ → ℕ → List Kept → List Dated
 changes_above table floor kept = flat_map (dated_in table floor) kept
 
@@ -40,22 +43,27 @@ window changes key = filter (λ dated. is_eq (key_cmp dated.change.key key)) cha
 abbrev pub with_key : List Key → Key → List Key
 with_key keys key = filter (λ k. is_lt (key_cmp k key)) keys ++ key ∷ filter (λ k. is_gt (key_cmp k key)) keys
 
+-- the keys of changes
 abbrev pub keys_of : List Dated → List Key
 keys_of changes = fold (λ keys dated. with_key keys dated.change.key) [] changes
 
+-- the last change, if there is one
 abbrev pub last_of : List Dated → Option Dated
 last_of [] = None
 last_of (dated ∷ []) = Some dated
 last_of (dated ∷ next ∷ more) = last_of (next ∷ more)
 
+-- whether an operation is an insert
 abbrev pub is_insert : Op → Bool
 is_insert Insert = true
 is_insert Update = false
 is_insert Delete = false
 
+-- the inserts among changes
 abbrev pub inserts_of : List Dated → List Dated
 inserts_of changes = filter (λ dated. is_insert dated.change.op) changes
 
+-- whether there is an insert among changes
 abbrev pub has_insert : List Dated → Bool
 has_insert changes = list_any (λ dated. is_insert dated.change.op) changes
 
@@ -70,6 +78,7 @@ abbrev pub has_others : List ℕ → ℕ → ℕ → List Column → Bool
 has_others key mask id [] = true
 has_others key mask id (column ∷ columns) = (list_any (λ k. k == id) key || bit_at mask (id - 1) == 1) && has_others key mask (id + 1) columns
 
+-- whether a mask has every column of a table outside its key
 abbrev pub is_whole : Schema → ℕ → Bool
 is_whole schema mask = has_others schema.key mask 1 schema.columns
 
@@ -100,10 +109,12 @@ row_of schema masks changes last =
 abbrev pub net_rows : Schema → Bool → List Dated → List NetRow
 net_rows schema masks changes = filter_map (λ key. option_map (row_of schema masks (window changes key)) (last_of (window changes key))) (keys_of changes)
 
+-- the net rows of a table that is tracked so; none where it is not tracked
 abbrev pub net_tracked : Schema → Option Tracked → List Kept → Option ℤ → List NetRow
 net_tracked schema None kept last = []
 net_tracked schema (Some tracked) kept last = net_rows schema tracked.masks (changes_above schema.id (floor_of tracked.min last) kept)
 
+-- the net rows of a table, if there is one
 abbrev pub net_of : Option Table → List Kept → Option ℤ → List NetRow
 net_of None kept last = []
 net_of (Some table) kept last = net_tracked table.schema table.tracked kept last

@@ -1,4 +1,5 @@
--- The schemas that a definition may give a table, and the rows and keys that fit a schema.
+-- The schemas that a definition may give a table, and the rows and keys that fit a schema. The types are those of
+-- https://learn.microsoft.com/sql/t-sql/data-types/data-types-transact-sql; which tables may be defined is this project's own.
 use Rattle.std.specs.Prelude.{◌≡◌, ◌≢◌, ℕ, ◌-◌, ◌≤◌, false, codes, List, [], ◌∷◌, length, map, slice_get}
 use Rattle.std.specs.List.{AllByRecursion, filter_map}
 use Rattle.std.specs.Option.{IsSomeAnd}
@@ -20,6 +21,7 @@ IsType BigInt = Unit {0}
 IsType (NVarChar most) = (1 ≤ most) × (most ≤ 4000)
 IsType (VarBinary most) = (1 ≤ most) × (most ≤ 8000)
 
+-- a column has a name and a type
 abbrev pub IsColumn : Column → Type 0
 IsColumn column = IsName column.name × IsType column.kind
 
@@ -54,6 +56,7 @@ AllHold [] (value ∷ values) = ⊥
 AllHold (column ∷ columns) [] = ⊥
 AllHold (column ∷ columns) (value ∷ values) = Holds column value × AllHold columns values
 
+-- a row fits a schema where its values are held by its columns
 abbrev pub RowFits : Schema → Row → Type 0
 RowFits schema row = AllHold schema.columns row.0
 
@@ -61,5 +64,6 @@ RowFits schema row = AllHold schema.columns row.0
 abbrev pub key_columns : Schema → List Column
 key_columns schema = filter_map (λ id. slice_get schema.columns (id - 1)) schema.key
 
+-- a key fits a schema where its values are held by the columns of the key
 abbrev pub KeyFits : Schema → Key → Type 0
 KeyFits schema key = AllHold (key_columns schema) key.0

@@ -1,4 +1,4 @@
--- The rows of a table by key, and the tables of a database by id.
+-- The rows of a table by key, and the tables of a database by id. This project's own.
 use Rattle.std.specs.Prelude.{ℕ, ◌-◌, Bool, false, nat_lt, ◌==◌, List, ◌++◌, filter, Option, None, Some, slice_get}
 use Rattle.std.specs.List.{list_any, filter_map, find}
 use Rattle.std.specs.Option.{option_to_list}
@@ -14,6 +14,7 @@ use Rattle.ct_model.specs.declared.db.Table.{Table}
 abbrev pub key_of : Schema → Row → Key
 key_of schema row = record { 0 = filter_map (λ id. slice_get row.0 (id - 1)) schema.key }
 
+-- whether a row has this key
 abbrev pub has_that_key : Schema → Key → Row → Bool
 has_that_key schema key row = is_eq (key_cmp (key_of schema row) key)
 
@@ -21,6 +22,7 @@ has_that_key schema key row = is_eq (key_cmp (key_of schema row) key)
 abbrev pub row_at : Schema → List Row → Key → Option Row
 row_at schema rows key = find (has_that_key schema key) rows
 
+-- whether some row has this key
 abbrev pub has_row : Schema → List Row → Key → Bool
 has_row schema rows key = list_any (has_that_key schema key) rows
 

@@ -1,4 +1,6 @@
 -- The versions that a client asks for, and how cleanup raises the minima.
+-- Source: https://learn.microsoft.com/sql/relational-databases/system-functions/change-tracking-functions-transact-sql;
+-- the cutoff is this project's own.
 use Rattle.std.specs.Prelude.{ℕ, ◌+◌, nat_lt, nat_le, max, List, [], map, filter, fold, Option, None, Some, if◌then◌else◌}
 use Rattle.std.specs.Option.{option_map, option_and_then}
 use Rattle.std.specs.List.{filter_map}
@@ -20,6 +22,7 @@ current db = option_map (λ keep. db.version) db.keep
 abbrev pub minimum : Db → ℕ → Option ℕ
 minimum db id = option_and_then (λ table. option_map (λ tracked. tracked.min) table.tracked) (table_of db.tables id)
 
+-- the version and the context of a change, or NULL twice
 abbrev pub version_row_of : Option Dated → VersionRow
 version_row_of None = record { version = None; context = None }
 version_row_of (Some dated) = record { version = Some dated.version; context = dated.change.context }
@@ -41,6 +44,7 @@ cutoff db now = option_and_then (λ keep. if keep.auto then Some (cutoff_of keep
 abbrev pub raise_to : ℕ → Table → Option Min
 raise_to cutoff table = option_and_then (λ tracked. if nat_lt tracked.min cutoff then Some (record { table = table.schema.id; min = cutoff }) else None) table.tracked
 
+-- the new minima of tables that are below the cutoff, where there is one
 abbrev pub raises_to : Option ℕ → List Table → List Min
 raises_to None tables = []
 raises_to (Some cutoff) tables = filter_map (raise_to cutoff) tables

@@ -1,9 +1,15 @@
 ghost use Rattle.ct_model.specs.Applies.{StaysValid};
-ghost use Rattle.ct_model.specs.Laws.{NeverLowers, Outdates, GoesOnAgreeing, RowsAgree, EmptyIsValid};
+ghost use Rattle.ct_model.specs.Laws.{NeverLowers, Outdates, GoesOnAgreeing, RowsAgree, EmptyIsValid, ReplayStaysValid};
+ghost use Rattle.ct_model.specs.Tells.{NetTells};
 
 /// An entry that applies leaves a valid database valid.
 pub fn stays_valid()
     ensures { StaysValid }
+{}
+
+/// Entries that apply in turn leave a valid database valid.
+pub fn replay_stays_valid()
+    ensures { ReplayStaysValid }
 {}
 
 /// The empty database is valid.
@@ -29,4 +35,11 @@ pub fn goes_on_agreeing()
 /// The rows of a table, noted with the version of the database, agree with it.
 pub fn rows_agree()
     ensures { RowsAgree }
+{}
+
+/// The net changes of a tracked table since a version name exactly the keys that some kept change of the table above the
+/// start of the window names, each once, in rising order; each with the version of its last change, and D exactly where
+/// that is a delete, else I exactly where an insert is in the window, else U.
+pub fn net_tells()
+    ensures { NetTells }
 {}

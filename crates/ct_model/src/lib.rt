@@ -22,6 +22,9 @@ pub use applying::applies;
 pub use changes::net;
 pub use db::{Dated, Db, Table};
 pub use entries::apply;
-pub use laws::{empty_is_valid, goes_on_agreeing, never_lowers, outdates, rows_agree, stays_valid};
+pub use laws::{
+    empty_is_valid, goes_on_agreeing, net_tells, never_lowers, outdates, replay_stays_valid,
+    rows_agree, stays_valid,
+};
 pub use rows::{cmp_row, has_row, key_of_row};
 pub use tables::find_table;

@@ -17,8 +17,8 @@ use Rattle.ct_types.specs.declared.stmt.FromClause.{FromClause}
 use Rattle.ct_types.specs.declared.stmt.Source.{Source}
 use Rattle.ct_types.specs.declared.stmt.Source.TheVariants as source_as
 use Rattle.ct_types.specs.declared.stmt.VersionSource.{VersionSource}
-use Rattle.ct_types.specs.declared.stmt.Join.{Join}
-use Rattle.ct_types.specs.declared.stmt.Join.TheVariants as join_as
+use Rattle.ct_types.specs.declared.stmt.JoinClause.{JoinClause}
+use Rattle.ct_types.specs.declared.stmt.JoinClause.TheVariants as join_as
 use Rattle.ct_types.specs.declared.stmt.JoinKind.{JoinKind}
 use Rattle.ct_types.specs.declared.stmt.JoinKind.TheVariants as side
 use Rattle.ct_types.specs.declared.stmt.OrderItem.{OrderItem}
@@ -102,13 +102,13 @@ module _ (inner : Entry → Reader Expr) where
   unfoldable pub source : Reader Source
   source = ahead ((k.ChangeTable ∷ []) ∷ (k.Open ∷ []) ∷ []) change_source (making (λ table. source_as.Table table) table_source)
 
-  unfoldable pub join_on : Reader Join
+  unfoldable pub join_on : Reader JoinClause
   join_on = making (λ p. join_as.On p.0 p.1.0 p.1.1.1) (both join_kind (both source (both (need k.On) (inner Whole))))
 
-  unfoldable pub join_apply : Reader Join
+  unfoldable pub join_apply : Reader JoinClause
   join_apply = making (λ p. join_as.Apply p.1.1) (both (need k.Cross) (both (need k.Apply) version_source))
 
-  unfoldable pub join : Reader Join
+  unfoldable pub join : Reader JoinClause
   join = pick (k.Join ∷ k.Inner ∷ k.Left ∷ k.Right ∷ []) join_on join_apply
 
   unfoldable pub from : Reader FromClause

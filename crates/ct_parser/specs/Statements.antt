@@ -14,8 +14,8 @@ use Rattle.ct_types.specs.declared.stmt.FromClause.{FromClause}
 use Rattle.ct_types.specs.declared.stmt.Source.{Source}
 use Rattle.ct_types.specs.declared.stmt.Source.TheVariants as source_as
 use Rattle.ct_types.specs.declared.stmt.VersionSource.{VersionSource}
-use Rattle.ct_types.specs.declared.stmt.Join.{Join}
-use Rattle.ct_types.specs.declared.stmt.Join.TheVariants as join_as
+use Rattle.ct_types.specs.declared.stmt.JoinClause.{JoinClause}
+use Rattle.ct_types.specs.declared.stmt.JoinClause.TheVariants as join_as
 use Rattle.ct_types.specs.declared.stmt.JoinKind.{JoinKind}
 use Rattle.ct_types.specs.declared.stmt.JoinKind.TheVariants as side
 use Rattle.ct_types.specs.declared.stmt.OrderItem.{OrderItem}
@@ -101,7 +101,7 @@ module _ (inner : Entry → Expr → List Lexeme → Type 0) where
       or ((λ table. source_as.Table table) of table_source)
 
   -- join = ([INNER] | LEFT [OUTER] | RIGHT [OUTER]) JOIN source ON expr | CROSS APPLY version [AS] name
-  unfoldable pub join : Rule Join
+  unfoldable pub join : Rule JoinClause
   join =
       ((λ p. join_as.On p.0 p.1.0 p.1.1.1) of (join_kind and source and one k.On and inner Whole))
       or ((λ p. join_as.Apply p.1.1) of (one k.Cross and one k.Apply and version_source))

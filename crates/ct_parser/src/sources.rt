@@ -12,7 +12,7 @@ use crate::parts::ChangeTable;
 use crate::trees::source_of;
 use ct_expressions::{alias, table_name, value, version, version_tail};
 use ct_grammar::{Cursor, Fault, Kind};
-use ct_types::{FromClause, Join, JoinKind, Source, TableSource, Text, VersionSource};
+use ct_types::{FromClause, JoinClause, JoinKind, Source, TableSource, Text, VersionSource};
 
 const ALIAS: &[Kind] = &[
     Kind::As,
@@ -182,14 +182,14 @@ impl Parser {
     }
 
     #[tactic(auto, unfolding(crate::specs::ReadStmt::join_on))]
-    fn join_on(&self, tokens: &mut Cursor<'_>) -> Result<Join, Fault>
+    fn join_on(&self, tokens: &mut Cursor<'_>) -> Result<JoinClause, Fault>
         ensures { Reads (spec.join_on (exprs.expr self.now.depth) tokens.old) result tokens.new }
     {
         let kind = self.join_kind(tokens)?;
         let source = self.source(tokens)?;
         tokens.skip(Kind::On)?;
         let condition = value(self.alloc, tokens, self.depth)?;
-        Ok(Join::On {
+        Ok(JoinClause::On {
             kind,
             source,
             condition,
@@ -197,16 +197,16 @@ impl Parser {
     }
 
     #[tactic(auto, unfolding(crate::specs::ReadStmt::join_apply))]
-    fn join_apply(&self, tokens: &mut Cursor<'_>) -> Result<Join, Fault>
+    fn join_apply(&self, tokens: &mut Cursor<'_>) -> Result<JoinClause, Fault>
         ensures { Reads (spec.join_apply (exprs.expr self.now.depth) tokens.old) result tokens.new }
     {
         tokens.skip(Kind::Cross)?;
         tokens.skip(Kind::Apply)?;
-        Ok(Join::Apply(self.version_source(tokens)?))
+        Ok(JoinClause::Apply(self.version_source(tokens)?))
     }
 
     #[tactic(auto, unfolding(crate::specs::ReadStmt::join))]
-    fn join(&self, tokens: &mut Cursor<'_>) -> Result<Join, Fault>
+    fn join(&self, tokens: &mut Cursor<'_>) -> Result<JoinClause, Fault>
         ensures { Reads (spec.join (exprs.expr self.now.depth) tokens.old) result tokens.new }
     {
         if tokens.sees(&[Kind::Join, Kind::Inner, Kind::Left, Kind::Right]) {
@@ -216,7 +216,7 @@ impl Parser {
         }
     }
 
-    fn maybe_join(&self, tokens: &mut Cursor<'_>) -> Result<Option<Join>, Fault>
+    fn maybe_join(&self, tokens: &mut Cursor<'_>) -> Result<Option<JoinClause>, Fault>
         ensures { Reads (option (k.Join ∷ k.Inner ∷ k.Left ∷ k.Right ∷ k.Cross ∷ []) (spec.join (exprs.expr self.now.depth)) tokens.old) result tokens.new }
     {
         if tokens.sees(JOINS) {

@@ -126,5 +126,6 @@ pub(crate) fn add_refusal(out: &mut String, refusal: &Refusal) -> Result<(), All
         Refusal::TooMany { limit } => add_count(out, "Refused TooMany ", u64::from(*limit)),
         Refusal::Exhausted { limit } => add_count(out, "Refused Exhausted ", *limit),
         Refusal::Stopped { event } => add_count(out, "Refused Stopped at ", *event),
+        Refusal::NotBuilt => add_words(out, "Refused NotBuilt\n"),
     }
 }

@@ -64,17 +64,18 @@ IsForm-push commands what form is =
     subst (λ x. IsForm (x ++ what ∷ [])) (sym parts.1) (AllByRecursion-push parts.0 what parts.2 is)
 
 -- the lines that begin each script
-abbrev first_lines : List ℕ
+abbrev pub first_lines : List ℕ
 first_lines = codes "1: ALTER DATABASE d SET CHANGE_TRACKING = ON\n1: CREATE TABLE t (id INT PRIMARY KEY, v INT NOT NULL)\n1: ALTER TABLE t ENABLE CHANGE_TRACKING\n"
 
 first_text : (later : List Command) → script_text (Database ∷ Create ∷ Enable ∷ later) ≡ first_lines ++ script_text later
 unfolding line_text
 first_text later = refl
 
-script_begins : (bytes : List ℕ) (commands : List Command) → IsScript bytes commands → (later : List Command) × (bytes ≡ first_lines ++ script_text later) × AllByRecursion IsLater later
+pub script_begins : (bytes : List ℕ) (commands : List Command) → IsScript bytes commands → (later : List Command) × (bytes ≡ first_lines ++ script_text later) × AllByRecursion IsLater later
+    × (commands ≡ Database ∷ Create ∷ Enable ∷ later)
 script_begins bytes commands script =
     let parts = form_parts commands script.form in
-    (parts.0, script.text ∙ ap script_text parts.1 ∙ first_text parts.0, parts.2)
+    (parts.0, script.text ∙ ap script_text parts.1 ∙ first_text parts.0, parts.2, parts.1)
 
 -- bytes with other first lines are no script
 pub begins_otherwise : (bytes : List ℕ) → ((rest : List ℕ) → bytes ≡ first_lines ++ rest → ⊥) → IsNoScript bytes

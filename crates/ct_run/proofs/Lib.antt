@@ -1,4 +1,5 @@
 pub mod Later
 pub mod Lines
 pub mod Numbers
+pub mod OneReading
 pub mod Readers

@@ -1,5 +1,5 @@
 -- The lines of the later commands.
-use Rattle.std.proofs.Common.{◌≡◌, ◌≤◌, ℕ, List, ◌++◌, codes, get_or, Option, Some, None, option_map, is_some, true, Bor, refl, ap, ◌∙◌, append_assoc, arith}
+use Rattle.std.proofs.Common.{◌≡◌, ◌≤◌, ℕ, List, ◌++◌, codes, get_or, Option, Some, None, option_map, is_some, true, Bor, refl, sym, ap, subst, ◌∙◌, append_assoc, arith}
 use Rattle.std.specs.Fmt.{decimal}
 use Rattle.ct_types.specs.declared.command.Command.{Command}
 use Rattle.ct_types.specs.declared.command.Command.TheVariants.{Database, Create, Enable, Insert, Delete, Changes}
@@ -79,9 +79,21 @@ unfolding id_text v_text
 after_id text id left None first second = insert_line text None (then_second id_text (λ n. n ≤ most_number) v_text (λ n. n ≤ most_number) text id left None first second)
 after_id text id left (Some read) first second = insert_line text (Some ((id, read.0), read.1)) (then_second id_text (λ n. n ≤ most_number) v_text (λ n. n ≤ most_number) text id left (Some read) first second)
 
+-- the line of an INSERT is read where its two parts are
+pub insert_reads : (id v : ℕ) (rest : List ℕ)
+    → Reads (λ n. codes "1: INSERT t VALUES (" ++ (decimal n ++ codes ", ")) IsBounded
+    ((codes "1: INSERT t VALUES (" ++ (decimal id ++ codes ", ")) ++ ((decimal v ++ codes ")\n") ++ rest)) (Some (id, (decimal v ++ codes ")\n") ++ rest))
+    → Reads (λ n. decimal n ++ codes ")\n") IsBounded ((decimal v ++ codes ")\n") ++ rest) (Some (v, rest))
+    → Reads line_text IsInsert (line_text (Insert id v) ++ rest) (Some (Insert id v, rest))
+unfolding id_text v_text
+insert_reads id v rest first second =
+    let left : List ℕ = (decimal v ++ codes ")\n") ++ rest in
+    let is : id_text id ++ left ≡ line_text (Insert id v) ++ rest = sym (append_assoc (id_text id) (v_text v) rest) ∙ sym (ap (λ x. x ++ rest) (insert_text (id, v))) in
+    subst (λ text. Reads line_text IsInsert text (Some (Insert id v, rest))) is (after_id (id_text id ++ left) id left (Some (v, rest)) first second)
+
 -- ---- the three kinds of lines, which the fourth byte tells apart
 
-insert_byte : (text : List ℕ) (what : Command) (rest : List ℕ) → IsInsert what rest → text ≡ line_text what ++ rest → get_or text 3 0 ≡ 73
+pub insert_byte : (text : List ℕ) (what : Command) (rest : List ℕ) → IsInsert what rest → text ≡ line_text what ++ rest → get_or text 3 0 ≡ 73
 unfolding line_text
 insert_byte text (Insert id v) rest fits e = ap (λ t. get_or t 3 0) e
 insert_byte text Database rest fits e = absurd fits
@@ -90,20 +102,20 @@ insert_byte text Enable rest fits e = absurd fits
 insert_byte text (Delete id) rest fits e = absurd fits
 insert_byte text (Changes last) rest fits e = absurd fits
 
-delete_byte : (text : List ℕ) (what : Command) (rest : List ℕ) → IsDelete what rest → text ≡ line_text what ++ rest → get_or text 3 0 ≡ 68
+pub delete_byte : (text : List ℕ) (what : Command) (rest : List ℕ) → IsDelete what rest → text ≡ line_text what ++ rest → get_or text 3 0 ≡ 68
 unfolding line_text
 delete_byte text what rest fits e =
     let only = only_delete what rest fits in
     ap (λ t. get_or t 3 0) (e ∙ ap (λ x. line_text x ++ rest) only.1)
 
-changes_byte : (text : List ℕ) (what : Command) (rest : List ℕ) → IsChanges what rest → text ≡ line_text what ++ rest → get_or text 3 0 ≡ 83
+pub changes_byte : (text : List ℕ) (what : Command) (rest : List ℕ) → IsChanges what rest → text ≡ line_text what ++ rest → get_or text 3 0 ≡ 83
 unfolding line_text
 changes_byte text what rest fits e =
     let only = only_changes what rest fits in
     ap (λ t. get_or t 3 0) (e ∙ ap (λ x. line_text x ++ rest) only.1)
 
 -- a later command is one of the three
-either : {P : Type 0} (what : Command) (rest : List ℕ) → IsLine what rest → (IsInsert what rest → P) → (IsDelete what rest → P) → (IsChanges what rest → P) → P
+pub either : {P : Type 0} (what : Command) (rest : List ℕ) → IsLine what rest → (IsInsert what rest → P) → (IsDelete what rest → P) → (IsChanges what rest → P) → P
 either (Insert id v) rest fits a b c = a fits
 either (Delete id) rest fits a b c = b fits
 either (Changes last) rest fits a b c = c fits

@@ -81,6 +81,17 @@ splits text n rest fits e =
       back = rw counted (rw e (drop-append_seam (decimal n) rest));
     }
 
+-- a number and what follows it are read
+pub number_reads : (n : ℕ) (rest : List ℕ) → IsNumber n rest → Reads decimal IsNumber (decimal n ++ rest) (Some (n, rest))
+number_reads n rest fits = record {
+  sound = (fits, refl);
+  whole = λ m left other e.
+      let here = splits (decimal n ++ rest) n rest fits refl in
+      let there = splits (decimal n ++ rest) m left other e in
+      let same : n ≡ m = sym (digits_value-decimal own n (omega (arith, fits.0))) ∙ ap (digits_value 10) (sym here.front ∙ there.front) ∙ digits_value-decimal own m (omega (arith, other.0)) in
+      ap (λ k. Some (k, rest)) same ∙ ap (λ r. Some (m, r)) (sym here.back ∙ there.back);
+}
+
 pub not_plain : (text : List ℕ) → ¬ IsPlainNumeral (take (count text) text) → Reads decimal IsNumber text None
 not_plain text wrong = record {
   sound = tt;

@@ -6,7 +6,7 @@ use Rattle.std.specs.Fmt.{decimal}
 use Rattle.ct_run.specs.Reading.{Reads, BeginsPlain, EndsNumber, IsNumber, IsBounded}
 
 -- what ends a number ends it whatever follows
-BeginsPlain-append : (end rest : List ℕ) → EndsNumber end → BeginsPlain (end ++ rest)
+pub BeginsPlain-append : (end rest : List ℕ) → EndsNumber end → BeginsPlain (end ++ rest)
 BeginsPlain-append [] rest ends = absurd ends
 BeginsPlain-append (byte ∷ end) rest ends = ends
 

@@ -1,4 +1,4 @@
--- How the front of a text is read.
+-- How the front of a text is read. This project's own.
 use Rattle.std.specs.Prelude.{◌≡◌, ℕ, ◌≤◌, ◌<◌, false, List, [], ◌∷◌, ◌++◌, length, slice_index, Option, Some, IfSome}
 use Rattle.std.specs.Char.{is_ascii_digit}
 use Rattle.std.specs.List.{AllByRecursion}
@@ -36,14 +36,17 @@ IsNumber n rest = (n ≤ most_number) × BeginsPlain rest
 abbrev pub IsBounded : ℕ → List ℕ → Type 0
 IsBounded n rest = n ≤ most_number
 
+-- an INSERT of two numbers of a script, whose spelling shows where it ends
 abbrev pub IsInsert : Command → List ℕ → Type 0
 IsInsert (Insert id v) rest = (id ≤ most_number) × (v ≤ most_number)
 IsInsert other rest = ⊥
 
+-- a DELETE of a number of a script, whose spelling shows where it ends
 abbrev pub IsDelete : Command → List ℕ → Type 0
 IsDelete (Delete id) rest = id ≤ most_number
 IsDelete other rest = ⊥
 
+-- a SELECT since a number of a script, whose spelling shows where it ends
 abbrev pub IsChanges : Command → List ℕ → Type 0
 IsChanges (Changes last) rest = last ≤ most_number
 IsChanges other rest = ⊥

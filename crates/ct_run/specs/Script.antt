@@ -1,4 +1,6 @@
--- The script form of today, by how a script is written.
+-- The script form of today, by how a script is written. The form is this project's own; its statements are those of
+-- https://learn.microsoft.com/sql/relational-databases/track-changes/enable-and-disable-change-tracking-sql-server and of
+-- https://learn.microsoft.com/sql/relational-databases/system-functions/changetable-transact-sql.
 use Rattle.std.specs.Prelude.{◌≡◌, ℕ, ◌≤◌, codes, List, ◌∷◌, ◌++◌, flat_map}
 use Rattle.std.specs.Fmt.{decimal}
 use Rattle.std.specs.List.{AllByRecursion}
@@ -14,6 +16,7 @@ line_text (Insert id v) = codes "1: INSERT t VALUES (" ++ decimal id ++ codes ",
 line_text (Delete id) = codes "1: DELETE FROM t WHERE id = " ++ decimal id ++ codes "\n"
 line_text (Changes last) = codes "1: SELECT * FROM CHANGETABLE(CHANGES t, " ++ decimal last ++ codes ") AS CT\n"
 
+-- the lines of the commands, one after another
 abbrev pub script_text : List Command → List ℕ
 script_text commands = flat_map line_text commands
 

@@ -1,4 +1,4 @@
--- What a call of `run_top` is, by its status.
+-- What a call of `run_top` is, by its status. This project's own.
 use Rattle.std.specs.Prelude.{◌≡◌, ◌≤◌, ◌⊎◌, ℕ, codes, List, [], ◌∷◌, length, map, Option, String, string_bytes}
 use Rattle.std.specs.declared.alloc.Global.{Global}
 use Rattle.std.specs.Io.KnownBytes.{Appends, Consumes, IsAtEnd, Keeps}
@@ -53,6 +53,7 @@ pub record DiskChange : Type 0 where
 abbrev pub SourceFailed : SourceChange → Type 0
 SourceFailed source = Rose source.faults_before source.faults_now
 
+-- the sink failed in this call
 abbrev pub SinkFailed : SinkChange → Type 0
 SinkFailed sink = Rose sink.faults_before sink.faults_now
 
@@ -71,8 +72,9 @@ pub record IsRunOf (script : List Command) (journal : List Journaled) : Type 0 w
   pub in_order : IsInOrder 1 1 script journal
   pub is_play : IsPlay (opening no_db) journal
 
--- what the sink got of the transcript: at the end all of it, where no memory was wanting; a front part where a write
--- failed; a front part, which may be all, where memory was wanting
+-- what the sink got of the transcript, by the status: at status 0 all of it, and no reply says that memory was wanting; at
+-- 4 a front part, since a write failed, and no reply says so either; at 7 a front part, which may be none or all of it;
+-- no other status comes of a play
 abbrev pub Writes : Status → SinkChange → List Journaled → Type 0
 Writes Done sink journal = IsWhole journal × Appends sink.before sink.now (transcript journal)
 Writes WriteFault sink journal = IsWhole journal × SinkFailed sink × AppendsFront sink.before sink.now (transcript journal)

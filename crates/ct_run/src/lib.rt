@@ -11,6 +11,6 @@ mod tests;
 mod top;
 
 pub use gate::{Gate, NoGate};
-pub use laws::completes;
+pub use laws::{completes, one_run, one_script, one_transcript};
 pub use status::Status;
 pub use top::{Done, run_top};

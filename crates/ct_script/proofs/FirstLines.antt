@@ -1,32 +1,12 @@
 -- The first line of bytes.
 use Rattle.std.proofs.Common.{◌≡◌, ℕ, ◌+◌, ◌<◌, ◌≤◌, Bool, true, false, cond, eqb, List, [], ◌∷◌, length, take, drop, position, Some, None, refl, sym, ap, ◌∙◌, arith, rules, tests, nat_lt}
-use Rattle.std.specs.List.{slice_split, onto_first, position_or_len, before_first, after_first, All}
+use Rattle.std.specs.List.{slice_split, position_or_len, before_first, after_first, All}
 use Rattle.std.specs.Str.Lines.{lines, lines_of_parts, strip_carriage_return}
 use Rattle.std.proofs.lemmas.List.Splits.{slice_split_none, slice_split_first}
 use Rattle.std.proofs.lemmas.List.Sums.{fails_before_first}
 use Rattle.std.proofs.lemmas.Bool.Decides.{nat_tests}
 use Rattle.std.proofs.lemmas.Option.{cond_some}
-
-is_end : ℕ → Bool
-is_end b = eqb b 10
-
--- there is a first part
-some_part : (bs : List ℕ) → (x : List ℕ) × (more : List (List ℕ)) × (slice_split (λ b. eqb b 10) bs ≡ x ∷ more)
-some_part [] = ([], [], refl)
-some_part (b ∷ bs) = by (eqb b 10) (some_part bs)
-  where
-    onto : (parts : List (List ℕ)) → (x : List ℕ) × (more : List (List ℕ)) × (onto_first b parts ≡ x ∷ more)
-    onto [] = (b ∷ [], [], refl)
-    onto (p ∷ ps) = (b ∷ p, ps, refl)
-
-    by : (t : Bool) → (x : List ℕ) × (more : List (List ℕ)) × (slice_split (λ b. eqb b 10) bs ≡ x ∷ more)
-        → (x : List ℕ) × (more : List (List ℕ)) × (cond t ([] ∷ slice_split (λ b. eqb b 10) bs) (onto_first b (slice_split (λ b. eqb b 10) bs)) ≡ x ∷ more)
-    by true h = ([], slice_split (λ b. eqb b 10) bs, refl)
-    by false h = onto (slice_split (λ b. eqb b 10) bs)
-
-lines_of_parts-cons : (x : List ℕ) (parts : List (List ℕ)) → (p : List ℕ) × (more : List (List ℕ)) × (parts ≡ p ∷ more) → lines_of_parts (x ∷ parts) ≡ strip_carriage_return x ∷ lines_of_parts parts
-lines_of_parts-cons x parts (p, more, e) =
-    ap (λ ps. lines_of_parts (x ∷ ps)) e ∙ sym (ap (λ ps. strip_carriage_return x ∷ lines_of_parts ps) e)
+use Rattle.ct_script.proofs.Parts.{slice_split-some, lines_of_parts-cons}
 
 -- with an LF: the line before it, and the lines after it
 pub lines-Some : (bs line rest : List ℕ) (end : ℕ) → position (λ b. eqb b 10) bs ≡ Some end → line ≡ strip_carriage_return (take end bs) → rest ≡ drop (end + 1) bs → lines bs ≡ line ∷ lines rest
@@ -35,7 +15,7 @@ lines-Some bs line rest end found at after =
     let place : position_or_len (λ b. eqb b 10) bs ≡ end = told.1 in
     let within : position_or_len (λ b. eqb b 10) bs < length bs = search (rules, told.0) in
     ap lines_of_parts (slice_split_first (λ b. eqb b 10) bs 0 within)
-    ∙ lines_of_parts-cons (before_first (λ b. eqb b 10) bs) (slice_split (λ b. eqb b 10) (after_first (λ b. eqb b 10) bs)) (some_part (after_first (λ b. eqb b 10) bs))
+    ∙ lines_of_parts-cons (before_first (λ b. eqb b 10) bs) (slice_split (λ b. eqb b 10) (after_first (λ b. eqb b 10) bs)) (slice_split-some (λ b. eqb b 10) (after_first (λ b. eqb b 10) bs))
     ∙ ap (λ n. strip_carriage_return (take n bs) ∷ lines (drop (n + 1) bs)) place
     ∙ sym (ap (λ l. l ∷ lines (drop (end + 1) bs)) at)
     ∙ sym (ap (λ r. line ∷ lines r) after)

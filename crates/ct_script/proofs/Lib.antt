@@ -1,6 +1,10 @@
 pub mod Blanks
 pub mod FirstLines
 pub mod Lasts
+pub mod Parts
 pub mod Placements
+pub mod PlainBack
+pub mod PlainLines
+pub mod PlainRuns
 pub mod Runs
 pub mod Steps

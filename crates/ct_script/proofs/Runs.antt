@@ -3,6 +3,7 @@ use Rattle.std.proofs.Common.{◌≡◌, ℕ, ◌+◌, ◌-◌, ◌⊎◌, inl, 
 use Rattle.std.specs.Prelude.{option_and_then}
 use Rattle.std.specs.List.{last_or, onto_first}
 use Rattle.std.proofs.lemmas.Grind.{common_steps}
+use Rattle.std.proofs.lemmas.List.{append-nil}
 use Rattle.ct_script.specs.Forms.{kind_of, head_text}
 use Rattle.ct_script.specs.Statements.{Statement, added, continued, begun, phases_of}
 use Rattle.ct_script.specs.Faults.{last_statement, broken_by, broken_after, or_later, first_fault, most_text}
@@ -28,10 +29,6 @@ extended (s ∷ t ∷ rest) more = s ∷ extended (t ∷ rest) more
 abbrev joined : List Statement → List (List Statement) → List (List Statement)
 joined [] phases = phases
 joined (s ∷ rest) phases = onto_first s (joined rest phases)
-
-append-nil : {X : Type 0} (xs : List X) → xs ++ [] ≡ xs
-append-nil [] = refl
-append-nil (x ∷ xs) = ap (λ l. x ∷ l) (append-nil xs)
 
 extended-nil : (xs : List Statement) → extended xs [] ≡ xs
 extended-nil [] = refl
@@ -196,7 +193,7 @@ Reads-fault bytes errors.Memory found = tt
 Reads-fault bytes (BadScript line rule) found =
     by_fault (first_fault [] (lines bytes)) (phases_of (lines bytes)) (BadScript line rule) (sym (run-start (lines bytes)) ∙ found)
 
-none_of : (f : Option (ℕ × ℕ)) (phases read : List (List Statement)) → answer_of f phases ≡ Ok read → (f ≡ None) × (phases ≡ read)
+pub none_of : (f : Option (ℕ × ℕ)) (phases read : List (List Statement)) → answer_of f phases ≡ Ok read → (f ≡ None) × (phases ≡ read)
 none_of None phases read e = (refl, cc)
 none_of (Some fault) phases read e = cc
 

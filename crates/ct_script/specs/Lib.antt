@@ -1,7 +1,9 @@
 pub mod Answer
 pub mod Faults
 pub mod Forms
+pub mod Laws
 pub mod Placing
+pub mod Plain
 pub mod Reading
 pub mod Schedule
 pub mod Statements

@@ -5,6 +5,7 @@ mod error;
 mod forms;
 mod kind;
 mod lanes;
+mod laws;
 mod lines;
 mod phases;
 mod read;
@@ -16,5 +17,6 @@ mod script;
 mod tests;
 
 pub use error::ScriptError;
+pub use laws::{one_answer, plain_scripts_are_read_back, scripts_have_a_plain_form};
 pub use read::read_script;
 pub use script::{Lane, Phase, Script};

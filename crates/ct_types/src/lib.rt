@@ -2,6 +2,8 @@
 #![tactic(auto)]
 
 mod bin;
+mod bound;
+mod catalogue;
 mod column_fit;
 mod command;
 mod copies;
@@ -10,6 +12,7 @@ mod expr;
 mod list;
 mod memory;
 mod order;
+mod piece;
 mod refusal;
 mod reply;
 mod schema;
@@ -20,6 +23,11 @@ mod value;
 mod verdict;
 
 pub use bin::Bin;
+pub use bound::{
+    Bound, BoundExpr, BoundRowVersion, BoundScalar, BoundSelect, BoundSet, BoundSource, BoundTerm,
+    BoundWrite, Join, OrderBy, Plan, RowChange, VersionColumn,
+};
+pub use catalogue::{Catalogued, Variable, Variables};
 pub use column_fit::{Misfit, fits, is_of_kind};
 pub use command::{Command, Journaled};
 pub use copies::Copies;
@@ -28,11 +36,12 @@ pub use expr::{ColumnName, Comparison, Expr, ObjectName, RowVersion, Scalar, Ter
 pub use list::List;
 pub use memory::Memory;
 pub use order::{cmp_key, cmp_value};
+pub use piece::Piece;
 pub use refusal::Refusal;
 pub use reply::{Grid, Reply};
 pub use schema::{ColType, Column, Schema};
 pub use stmt::{
-    ColumnDef, ColumnRule, DatabaseOption, FromClause, Isolation, Join, JoinKind, OrderItem,
+    ColumnDef, ColumnRule, DatabaseOption, FromClause, Isolation, JoinClause, JoinKind, OrderItem,
     Retention, Select, SelectItem, SetColumn, Source, Stmt, TableSource, TimeUnit, TrackingOptions,
     TypeName, VersionSource, WriteStmt,
 };

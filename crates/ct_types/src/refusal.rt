@@ -75,6 +75,8 @@ pub enum Refusal {
     Exhausted { limit: u64 },
     /// An earlier event of this opening, by its number, met a disk fault.
     Stopped { event: u64 },
+    /// A sentence of the language of a form that this server does not run yet.
+    NotBuilt,
 }
 
 impl From<Memory> for Refusal {
@@ -164,6 +166,7 @@ impl Copies for Refusal {
             Refusal::TooMany { limit } => Ok(Refusal::TooMany { limit: *limit }),
             Refusal::Exhausted { limit } => Ok(Refusal::Exhausted { limit: *limit }),
             Refusal::Stopped { event } => Ok(Refusal::Stopped { event: *event }),
+            Refusal::NotBuilt => Ok(Refusal::NotBuilt),
         }
     }
 }

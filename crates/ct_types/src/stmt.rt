@@ -176,7 +176,7 @@ pub enum SelectItem {
 #[derive(Debug, Drop)]
 pub struct FromClause {
     pub source: Source,
-    pub join: Option<Join>,
+    pub join: Option<JoinClause>,
 }
 
 /// What rows are taken from.
@@ -201,7 +201,7 @@ pub struct VersionSource {
 
 /// What stands after the first source.
 #[derive(Debug, Drop)]
-pub enum Join {
+pub enum JoinClause {
     On {
         kind: JoinKind,
         source: Source,

@@ -1,4 +1,4 @@
-use Rattle.std.proofs.Common.{◌≡◌, ◌≤◌, ◌<◌, inl, inr, ℕ, true, List, Option, None, Some, IfSome, IsSomeAnd, refl, sym, ap, ◌∙◌, subst, arith}
+use Rattle.std.proofs.Common.{◌≡◌, ◌≤◌, ◌<◌, inl, inr, ℕ, true, List, Option, None, Some, IfSome, refl, sym, ap, ◌∙◌, subst, arith}
 use Rattle.ct_types.specs.declared.value.Key.{Key}
 use Rattle.ct_types.specs.declared.value.Row.{Row}
 use Rattle.ct_types.specs.declared.tracked.Tracked.{Tracked}
@@ -9,7 +9,7 @@ use Rattle.ct_model.specs.Agrees.{Agrees, CopyAgrees, Differ}
 use Rattle.ct_model.specs.Applies.{Applies}
 use Rattle.ct_model.specs.Apply.{apply, kept_of, changes_of}
 use Rattle.ct_model.specs.Tables.{row_at, table_of}
-use Rattle.ct_model.proofs.Found.{found_itself}
+use Rattle.ct_model.proofs.Found.{found_id}
 use Rattle.ct_model.proofs.Moving.{Moves, FoundMoves, tables_move, changes_draw}
 use Rattle.ct_model.proofs.NetKeys.{IsOf, HasAbove, IsWithin, net_has, net_tells}
 use Rattle.ct_model.proofs.Rises.{version_rises, drawn_rises}
@@ -19,11 +19,6 @@ use Rattle.ct_model.proofs.laws.goes_on_agreeing.Goals as goal
 
 if_some_at : {X : Type 0} (P : X → Type 0) (o : Option X) (x : X) → o ≡ Some x → IfSome o P → P x
 if_some_at P o x e holds = subst (λ o. IfSome o P) e holds
-
-found_id : (tables : List Table) (id : ℕ) (table : Table) → table_of tables id ≡ Some table → table.schema.id ≡ id
-found_id tables id table is =
-    let found : IsSomeAnd (table_of tables id) (λ t. Unit {0}) = rw is tt in
-    (subst (λ o. IsSomeAnd o (λ t. (t.schema.id ≡ id) × Unit {0})) is (found_itself (λ t. Unit {0}) tables id found)).0
 
 within_then : (noted : ℕ) (tracked : Option Tracked) (R : Type 0) → IfSome tracked (λ tracked. tracked.min ≤ noted → R)
     → IsWithin noted tracked → R

@@ -140,3 +140,7 @@ returns-in-Exhausted c = rw c.in-Exhausted.is c.add_count-in-Exhausted.ensures
 pub returns-in-Stopped : goal.returns-in-Stopped
 unfolding refusal_text
 returns-in-Stopped c = rw c.in-Stopped.is c.add_count-in-Stopped.ensures
+
+pub returns-in-NotBuilt : goal.returns-in-NotBuilt
+unfolding refusal_text
+returns-in-NotBuilt c = rw c.in-NotBuilt.is c.add_words-in-NotBuilt.ensures

@@ -1,0 +1,25 @@
+-- Laws of conditions: De Morgan's, double negation, and that a comparison is its mirror.
+use Rattle.std.specs.Prelude.{◌≡◌}
+use Rattle.ct_types.specs.declared.expr.Comparison.{Comparison}
+use Rattle.ct_types.specs.declared.expr.Comparison.TheVariants as comparison
+use Rattle.ct_types.specs.declared.value.Value.{Value}
+use Rattle.ct_expr.specs.Logic.{Truth, not3, and3, or3}
+use Rattle.ct_expr.specs.Numbers.{compare}
+
+abbrev pub DeMorgan : Type 0
+DeMorgan = (a b : Truth) → (not3 (and3 a b) ≡ or3 (not3 a) (not3 b)) × (not3 (or3 a b) ≡ and3 (not3 a) (not3 b))
+
+abbrev pub DoubleNegation : Type 0
+DoubleNegation = (a : Truth) → not3 (not3 a) ≡ a
+
+-- the comparison that says the same with its sides exchanged
+abbrev pub mirrored : Comparison → Comparison
+mirrored comparison.Equal = comparison.Equal
+mirrored comparison.NotEqual = comparison.NotEqual
+mirrored comparison.Less = comparison.More
+mirrored comparison.AtMost = comparison.AtLeast
+mirrored comparison.More = comparison.Less
+mirrored comparison.AtLeast = comparison.AtMost
+
+abbrev pub Mirror : Type 0
+Mirror = (operator : Comparison) (a b : Value) → compare operator a b ≡ compare (mirrored operator) b a

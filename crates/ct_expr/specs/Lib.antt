@@ -1,0 +1,6 @@
+pub mod Outcomes
+pub mod Logic
+pub mod Numbers
+pub mod Functions
+pub mod Meaning
+pub mod Laws

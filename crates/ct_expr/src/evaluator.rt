@@ -1,0 +1,239 @@
+ghost use Rattle.std.specs.Prelude.{◌≡◌};
+ghost use Rattle.ct_expr.specs.Meaning as spec;
+ghost use Rattle.ct_expr.specs.Meaning.{scene};
+ghost use Rattle.ct_expr.specs.Outcomes.{Gives};
+
+use crate::functions::{
+    column_property, counted_or_null, if_null, is_column_in_mask, min_valid_version, object_id,
+    value_at, variable_at, version_column, with,
+};
+use crate::logic::{and3, not3, or3};
+use crate::numbers::{compare, is_null, minus, negative, plus, times};
+use crate::{Env, Versions};
+use ct_types::{
+    BoundExpr, BoundRowVersion, BoundScalar, BoundTerm, Copies, Key, List, Refusal, Row, Value,
+    VersionRow,
+};
+use std::alloc::Global;
+
+/// The value of an expression on a row; NULL of a condition, which has none.
+///
+/// # Errors
+///
+/// `Overflow` exactly where a sum, difference, product or sign anywhere in the expression does not fit 64 bits;
+/// `Memory` for want of memory.
+pub fn eval<L: Versions>(
+    alloc: Global,
+    expr: &BoundExpr,
+    row: &Row,
+    env: &Env,
+    versions: &L,
+) -> Result<Value, Refusal>
+    ensures { Gives (spec.value (scene row.now env.now (L.row_of versions.now)) expr.now) result }
+{
+    Scene {
+        alloc,
+        row,
+        env,
+        versions,
+    }
+    .value(expr)
+}
+
+/// The truth of a condition on a row. None is unknown, and stands also for an expression that is no condition. The
+/// errors are those of `eval`.
+pub fn truth<L: Versions>(
+    alloc: Global,
+    expr: &BoundExpr,
+    row: &Row,
+    env: &Env,
+    versions: &L,
+) -> Result<Option<bool>, Refusal>
+    ensures { Gives (spec.truth (scene row.now env.now (L.row_of versions.now)) expr.now) result }
+{
+    Scene {
+        alloc,
+        row,
+        env,
+        versions,
+    }
+    .truth(expr)
+}
+
+/// On what an expression is evaluated.
+#[derive(Drop)]
+struct Scene<'a, L> {
+    alloc: Global,
+    row: &'a Row,
+    env: &'a Env,
+    versions: &'a L,
+}
+
+impl<L: Versions> Scene<'_, L> {
+    #[cycle(values)]
+    fn value(&self, expr: &BoundExpr) -> Result<Value, Refusal>
+        ensures { Gives (spec.value (scene self.now.row.now self.now.env.now (L.row_of self.now.versions.now)) expr.now) result }
+    {
+        let tables = self.env.names.as_slice();
+        match expr {
+            BoundExpr::Null => Ok(Value::Null),
+            BoundExpr::Number(number) => Ok(Value::Int(*number)),
+            BoundExpr::Text(text) => Ok(Value::Text(text.copy(self.alloc)?)),
+            BoundExpr::Bytes(bytes) => Ok(Value::Bytes(bytes.copy(self.alloc)?)),
+            BoundExpr::Column(at) => Ok(value_at(self.alloc, self.row.0.as_slice(), *at)?),
+            BoundExpr::Variable(at) => {
+                Ok(variable_at(self.alloc, self.env.variables.0.as_slice(), *at)?)
+            }
+            BoundExpr::CurrentVersion => Ok(counted_or_null(self.env.current)),
+            BoundExpr::MinValidVersion(table) => {
+                let table = self.value(table.get())?;
+                Ok(min_valid_version(tables, self.env.minima.as_slice(), &table))
+            }
+            BoundExpr::IsColumnInMask(column, mask) => {
+                let column = self.value(column.get())?;
+                Ok(is_column_in_mask(&column, &self.value(mask.get())?))
+            }
+            BoundExpr::ObjectId(name) => {
+                let name = self.value(name.get())?;
+                Ok(object_id(self.alloc, tables, &name)?)
+            }
+            BoundExpr::ColumnProperty(table, column, property) => {
+                let table = self.value(table.get())?;
+                let column = self.value(column.get())?;
+                Ok(column_property(tables, &table, &column, &self.value(property.get())?))
+            }
+            BoundExpr::IfNull(a, b) => Ok(if_null(self.value(a.get())?, self.value(b.get())?)),
+            BoundExpr::Scalar(scalar) => self.scalar(scalar.get()),
+            BoundExpr::Negative(a) => negative(&self.value(a.get())?),
+            BoundExpr::Product(factors) => self.product(factors.as_slice()),
+            BoundExpr::Sum(first, more) => self.sum(self.value(first.get())?, more.as_slice()),
+            BoundExpr::Compare(_, _, _) => Ok(Value::Null),
+            BoundExpr::IsNull(_) | BoundExpr::IsNotNull(_) | BoundExpr::Not(_) => Ok(Value::Null),
+            BoundExpr::And(_) | BoundExpr::Or(_) => Ok(Value::Null),
+        }
+    }
+
+    #[cycle(values)]
+    fn multiplied(&self, so_far: Value, factor: &BoundExpr) -> Result<Value, Refusal>
+        ensures { Gives (spec.multiplied so_far (spec.meaning (scene self.now.row.now self.now.env.now (L.row_of self.now.versions.now)) factor.now)) result }
+    {
+        times(&so_far, &self.value(factor)?)
+    }
+
+    #[cycle(values)]
+    #[tactic(auto, using(crate::proofs::Chains::loops))]
+    fn product(&self, factors: &[BoundExpr]) -> Result<Value, Refusal>
+        ensures { Gives (spec.product (scene self.now.row.now self.now.env.now (L.row_of self.now.versions.now)) factors.now) result }
+    {
+        let mut made = Value::Int(1);
+        for factor in factors {
+            made = self.multiplied(made, factor)?;
+        }
+        Ok(made)
+    }
+
+    #[cycle(values)]
+    fn added(&self, so_far: Value, term: &BoundTerm) -> Result<Value, Refusal>
+        ensures { Gives (spec.added so_far (spec.operand (scene self.now.row.now self.now.env.now (L.row_of self.now.versions.now)) term.now)) result }
+    {
+        let value = self.value(&term.value)?;
+        if term.subtracts {
+            minus(&so_far, &value)
+        } else {
+            plus(&so_far, &value)
+        }
+    }
+
+    #[cycle(values)]
+    #[tactic(auto, using(crate::proofs::Chains::loops))]
+    fn sum(&self, first: Value, more: &[BoundTerm]) -> Result<Value, Refusal>
+        ensures { Gives (spec.sum (scene self.now.row.now self.now.env.now (L.row_of self.now.versions.now)) first more.now) result }
+    {
+        let mut made = first;
+        for term in more {
+            made = self.added(made, term)?;
+        }
+        Ok(made)
+    }
+
+    #[cycle(values)]
+    fn listed(&self, so_far: List<Value>, part: &BoundExpr) -> Result<List<Value>, Refusal>
+        ensures { Gives (spec.listed so_far (spec.meaning (scene self.now.row.now self.now.env.now (L.row_of self.now.versions.now)) part.now)) result }
+    {
+        let value = self.value(part)?;
+        Ok(with(so_far, value)?)
+    }
+
+    #[cycle(values)]
+    #[tactic(auto, using(crate::proofs::Chains::loops))]
+    fn key(&self, parts: &[BoundExpr]) -> Result<Key, Refusal>
+        ensures { Gives (spec.key (scene self.now.row.now self.now.env.now (L.row_of self.now.versions.now)) parts.now) result }
+    {
+        let mut values = List::new(self.alloc);
+        for part in parts {
+            values = self.listed(values, part)?;
+        }
+        Ok(Key(values))
+    }
+
+    /// The key that the values of CHANGETABLE(VERSION ..) make, and the row at that key.
+    #[cycle(values)]
+    #[tactic(auto, using(crate::proofs::RowVersions::row_versions))]
+    fn row_version(&self, version: &BoundRowVersion) -> Result<(Key, VersionRow), Refusal>
+        ensures { Gives (spec.row_version (scene self.now.row.now self.now.env.now (L.row_of self.now.versions.now)) version.now) result }
+    {
+        let key = self.key(version.values.as_slice())?;
+        let row = self.versions.version(self.alloc, version.table, &key)?;
+        Ok((key, row))
+    }
+
+    #[cycle(values)]
+    fn scalar(&self, scalar: &BoundScalar) -> Result<Value, Refusal>
+        ensures { Gives (spec.scalar (scene self.now.row.now self.now.env.now (L.row_of self.now.versions.now)) scalar.now) result }
+    {
+        let (key, row) = self.row_version(&scalar.version)?;
+        Ok(version_column(self.alloc, scalar.column, &key, row)?)
+    }
+
+    #[cycle(truths)]
+    fn truth(&self, expr: &BoundExpr) -> Result<Option<bool>, Refusal>
+        ensures { Gives (spec.truth (scene self.now.row.now self.now.env.now (L.row_of self.now.versions.now)) expr.now) result }
+    {
+        match expr {
+            BoundExpr::Compare(operator, a, b) => {
+                let a = self.value(a.get())?;
+                Ok(compare(*operator, &a, &self.value(b.get())?))
+            }
+            BoundExpr::IsNull(a) => Ok(Some(is_null(&self.value(a.get())?))),
+            BoundExpr::IsNotNull(a) => Ok(Some(!is_null(&self.value(a.get())?))),
+            BoundExpr::Not(a) => Ok(not3(self.truth(a.get())?)),
+            BoundExpr::And(operands) => self.all(operands.as_slice()),
+            BoundExpr::Or(operands) => self.any(operands.as_slice()),
+            _ => Ok(None),
+        }
+    }
+
+    #[cycle(truths)]
+    #[tactic(auto, using(crate::proofs::Chains::loops))]
+    fn all(&self, operands: &[BoundExpr]) -> Result<Option<bool>, Refusal>
+        ensures { Gives (spec.conjunction (scene self.now.row.now self.now.env.now (L.row_of self.now.versions.now)) operands.now) result }
+    {
+        let mut made = Some(true);
+        for operand in operands {
+            made = and3(made, self.truth(operand)?);
+        }
+        Ok(made)
+    }
+
+    #[cycle(truths)]
+    #[tactic(auto, using(crate::proofs::Chains::loops))]
+    fn any(&self, operands: &[BoundExpr]) -> Result<Option<bool>, Refusal>
+        ensures { Gives (spec.disjunction (scene self.now.row.now self.now.env.now (L.row_of self.now.versions.now)) operands.now) result }
+    {
+        let mut made = Some(false);
+        for operand in operands {
+            made = or3(made, self.truth(operand)?);
+        }
+        Ok(made)
+    }
+}

@@ -1,0 +1,211 @@
+ghost use Rattle.std.specs.Prelude.{◌≡◌, ℕ, ◌+◌, ◌-◌, ◌++◌, ◌∷◌, [], IfOk, map, slice_get};
+ghost use Rattle.std.specs.List.{position};
+ghost use Rattle.std.specs.Option.{option_map, option_and_then};
+ghost use Rattle.std.specs.Str.{str_eq_ignore_ascii_case};
+ghost use Rattle.ct_expr.specs.Functions as spec;
+
+use crate::numbers::is_null;
+use ct_mask::read;
+use ct_table_name::table_named;
+use ct_types::{
+    Bin, Column, Copies, Key, List, Memory, Schema, Value, Variable, VersionColumn, VersionRow,
+};
+use std::alloc::Global;
+
+/// The value in a place, or NULL where there is none.
+pub(crate) fn value_at(alloc: Global, values: &[Value], at: u32) -> Result<Value, Memory>
+    ensures { IfOk result (λ value. value ≡ spec.or_null (slice_get values.now at)) }
+{
+    match values.get(at as usize) {
+        Some(value) => value.copy(alloc),
+        None => Ok(Value::Null),
+    }
+}
+
+/// The value of the variable in a place.
+pub(crate) fn variable_at(alloc: Global, variables: &[Variable], at: u32) -> Result<Value, Memory>
+    ensures { IfOk result (λ value. value ≡ spec.or_null (option_map (λ variable. variable.value) (slice_get variables.now at))) }
+{
+    match variables.get(at as usize) {
+        Some(variable) => variable.value.copy(alloc),
+        None => Ok(Value::Null),
+    }
+}
+
+/// The values with one more at the end.
+pub(crate) fn with(mut values: List<Value>, value: Value) -> Result<List<Value>, Memory>
+    ensures { IfOk result (λ made. made ≡ values ++ value ∷ []) }
+{
+    values.push(value)?;
+    Ok(values)
+}
+
+/// A number as a value.
+fn counted(n: u64) -> Value
+    ensures { result ≡ spec.counted n }
+{
+    if n < 9_223_372_036_854_775_808 {
+        Value::Int(n as i64)
+    } else {
+        Value::Null
+    }
+}
+
+pub(crate) fn counted_or_null(n: Option<u64>) -> Value
+    ensures { result ≡ spec.counted_or_null n }
+{
+    match n {
+        Some(n) => counted(n),
+        None => Value::Null,
+    }
+}
+
+/// ISNULL
+pub(crate) fn if_null(a: Value, b: Value) -> Value
+    ensures { result ≡ spec.if_null a b }
+{
+    if is_null(&a) { b } else { a }
+}
+
+/// OBJECT_ID
+pub(crate) fn object_id(alloc: Global, tables: &[Schema], name: &Value) -> Result<Value, Memory>
+    ensures { IfOk result (λ id. id ≡ spec.object_id tables.now name.now) }
+{
+    match name {
+        Value::Text(name) => match table_named(alloc, tables, name.as_str())? {
+            Some(table) => Ok(counted(u64::from(table.id))),
+            None => Ok(Value::Null),
+        },
+        _ => Ok(Value::Null),
+    }
+}
+
+fn table_of(tables: &[Schema], id: i64) -> Option<&Schema>
+    ensures { option_map (λ table. table.now) result ≡ spec.table_of tables.now id }
+{
+    tables.iter().find(|table| i64::from(table.id) == id)
+}
+
+fn same(a: &str, b: &str) -> bool
+    ensures { result ≡ str_eq_ignore_ascii_case a.now b.now }
+{
+    a.eq_ignore_ascii_case(b)
+}
+
+fn place_of(name: &str, columns: &[Column]) -> Option<usize>
+    ensures { result ≡ position (λ column. str_eq_ignore_ascii_case column.name name.now) columns.now }
+{
+    columns
+        .iter()
+        .position(|column| same(column.name.as_str(), name))
+}
+
+/// The id of the column of that name.
+fn column_id(name: &str, table: &Schema) -> Option<u64>
+    ensures { result ≡ spec.column_id name.now table.now }
+{
+    match place_of(name, table.columns.as_slice()) {
+        Some(place) => Some(place as u64 + 1),
+        None => None,
+    }
+}
+
+fn column_id_in(tables: &[Schema], table: i64, name: &str) -> Option<u64>
+    ensures { result ≡ option_and_then (spec.column_id name.now) (spec.table_of tables.now table) }
+{
+    match table_of(tables, table) {
+        Some(table) => column_id(name, table),
+        None => None,
+    }
+}
+
+/// COLUMNPROPERTY
+pub(crate) fn column_property(
+    tables: &[Schema],
+    table: &Value,
+    column: &Value,
+    property: &Value,
+) -> Value
+    ensures { result ≡ spec.column_property tables.now table.now column.now property.now }
+{
+    match (table, column, property) {
+        (Value::Int(table), Value::Text(column), Value::Text(property)) => {
+            if same(property.as_str(), "ColumnId") {
+                counted_or_null(column_id_in(tables, *table, column.as_str()))
+            } else {
+                Value::Null
+            }
+        }
+        _ => Value::Null,
+    }
+}
+
+fn minimum_of(tables: &[Schema], minima: &[Option<u64>], id: i64) -> Option<u64>
+    ensures { result ≡ spec.minimum_of tables.now minima.now id }
+{
+    match tables {
+        [] => None,
+        [table, tables @ ..] => match minima {
+            [] => None,
+            [minimum, minima @ ..] => {
+                if i64::from(table.id) == id {
+                    *minimum
+                } else {
+                    minimum_of(tables, minima, id)
+                }
+            }
+        },
+    }
+}
+
+/// CHANGE_TRACKING_MIN_VALID_VERSION
+pub(crate) fn min_valid_version(tables: &[Schema], minima: &[Option<u64>], table: &Value) -> Value
+    ensures { result ≡ spec.min_valid_version tables.now minima.now table.now }
+{
+    match table {
+        Value::Int(id) => counted_or_null(minimum_of(tables, minima, *id)),
+        _ => Value::Null,
+    }
+}
+
+fn one_or_zero(told: bool) -> Value
+    ensures { result ≡ spec.one_or_zero told }
+{
+    Value::Int(i64::from(told))
+}
+
+/// CHANGE_TRACKING_IS_COLUMN_IN_MASK
+pub(crate) fn is_column_in_mask(column: &Value, mask: &Value) -> Value
+    ensures { result ≡ spec.is_column_in_mask column.now mask.now }
+{
+    match (column, mask) {
+        (Value::Int(id), Value::Null) => one_or_zero(read(None, *id)),
+        (Value::Int(id), Value::Bytes(mask)) => one_or_zero(read(Some(mask.as_bytes()), *id)),
+        _ => Value::Null,
+    }
+}
+
+fn bytes_or_null(bytes: Option<Bin>) -> Value
+    ensures { result ≡ spec.bytes_or_null bytes }
+{
+    match bytes {
+        Some(bytes) => Value::Bytes(bytes),
+        None => Value::Null,
+    }
+}
+
+/// A column of CHANGETABLE(VERSION ..), by the key that was given and the row that it has.
+pub(crate) fn version_column(
+    alloc: Global,
+    column: VersionColumn,
+    key: &Key,
+    row: VersionRow,
+) -> Result<Value, Memory>
+    ensures { IfOk result (λ value. value ≡ spec.version_column column key.now row) }
+{
+    match column {
+        VersionColumn::Version => Ok(counted_or_null(row.version)),
+        VersionColumn::Context => Ok(bytes_or_null(row.context)),
+        VersionColumn::Key(at) => value_at(alloc, key.0.as_slice(), at),
+    }
+}

@@ -1,0 +1,15 @@
+//! What bound expressions mean on a row, and the evaluator that gives it.
+#![tactic(auto)]
+
+mod env;
+mod evaluator;
+mod functions;
+mod laws;
+mod logic;
+mod numbers;
+#[cfg(test)]
+mod tests;
+
+pub use env::{Env, Versions};
+pub use evaluator::{eval, truth};
+pub use laws::{de_morgan, double_negation, mirror};

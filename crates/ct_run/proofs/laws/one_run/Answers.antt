@@ -1,0 +1,5 @@
+use Rattle.ct_run.proofs.OneReading.{one_run}
+use Rattle.ct_run.proofs.laws.one_run.Goals as goal
+
+pub returns : goal.returns
+returns c = one_run

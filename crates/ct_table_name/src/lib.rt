@@ -1,0 +1,10 @@
+//! The table that a text names.
+#![tactic(auto)]
+
+mod parts;
+mod tables;
+#[cfg(test)]
+mod tests;
+
+pub use parts::spelled_name;
+pub use tables::table_named;
