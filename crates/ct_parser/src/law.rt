@@ -6,8 +6,8 @@ pub fn reads_exactly()
     ensures { ReadsExactly }
 {}
 
-/// The grammar leaves a parser one answer: two that meet `Parsed` of the tokens of a text, neither of them want of
-/// memory, are the same.
+/// What `parse` answers is the only answer that its clause allows: two answers to the tokens of a text, neither of them
+/// want of memory, are the same.
 pub fn answers_once()
     ensures { AnswersOnce }
 {}

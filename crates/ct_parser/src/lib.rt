@@ -1,7 +1,18 @@
-//! The grammar of statements as definitions, and the laws of what a parser answers.
+//! The parser: statements from tokens, exactly by the grammar.
 #![tactic(auto)]
 
 mod law;
-pub mod parts;
+mod levels;
+mod parts;
+mod select;
+mod session;
+mod sources;
+mod statement;
+mod trees;
+mod writes;
 
 pub use law::{answers_once, reads_exactly};
+pub use statement::parse;
+
+#[cfg(test)]
+mod tests;
