@@ -13,29 +13,27 @@ use std::time::Instant;
 
 const LINE: &[u8] = b"1: INSERT INTO t VALUES (1000000, 5, N'a text of a few words and more')\n";
 
-fn script(alloc: Global, bytes: usize) -> anyhow::Result<Vec<u8>> {
+fn script(alloc: Global, lines: usize) -> anyhow::Result<Vec<u8>> {
     let mut made = Vec::new(alloc);
-    for _ in 0..bytes / LINE.len() {
+    for _ in 0..lines {
         made.extend_from_slice(LINE)?;
     }
     Ok(made)
 }
 
 fn main(rt: HostRuntime) -> anyhow::Result<()> {
-    let mut base = 0;
-    for mebibytes in [1, 2, 4, 8, 16] {
-        let bytes = script(rt.alloc(), mebibytes * 1_048_576)?;
-        let start = Instant::now(&rt)?;
-        let read = read_script(rt.alloc(), bytes.as_slice());
-        let micros = start.elapsed(&rt)?.as_micros();
-        let phases = read.map_or(0, |script| script.phases.as_slice().len());
-        if base == 0 {
-            base = micros;
+    // 14,563 lines are 1 MiB
+    for lines in [14_563, 29_126, 58_252, 116_504, 233_008] {
+        let bytes = script(rt.alloc(), lines)?;
+        if bytes.len() < 4_294_967_296 {
+            let start = Instant::now(&rt)?;
+            let read = read_script(rt.alloc(), bytes.as_slice()).is_ok();
+            let micros = start.elapsed(&rt)?.as_micros();
+            println!(rt; "{lines} {micros} {read}")?;
         }
-        let ratio = micros * 100 / base;
-        println!(rt; "{mebibytes} MiB: {micros} microseconds, {ratio} hundredths of the first, phases {phases}")?;
     }
     Ok(())
 }
 END
-"$(dirname "$0")/measure.sh" "ct_script anyhow" "$main"
+"$(dirname "$0")/measure.sh" "ct_script anyhow" "$main" |
+  awk '$1 + 0 { if (!first) first = $2; printf "%2d MiB: %8d microseconds, %.1f times the first, read: %s\n", $1 / 14563, $2, $2 / first, $3 }'
