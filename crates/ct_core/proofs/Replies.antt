@@ -1,7 +1,7 @@
 -- A step never answers want of memory.
 use Rattle.std.proofs.Common.{◌≡◌, ℕ, Bool, true, false, cond, Option, None, Some, is_some, not, ◌&&◌, refl}
-use Rattle.ct_types.specs.declared.command.Command.{Command}
-use Rattle.ct_types.specs.declared.command.Command.TheVariants.{Database, Create, Enable, Insert, Delete, Changes}
+use Rattle.ct_machine.specs.declared.command.Command.{Command}
+use Rattle.ct_machine.specs.declared.command.Command.TheVariants.{Database, Create, Enable, Insert, Delete, Changes}
 use Rattle.ct_types.specs.declared.entry.Keep.{Keep}
 use Rattle.ct_model.specs.declared.db.Db.{Db}
 use Rattle.ct_model.specs.declared.db.Table.{Table}

@@ -4,9 +4,9 @@ ghost use Rattle.ct_machine.specs.Step.{entry_of, has_room as has_room_for};
 ghost use Rattle.ct_core.specs.Stands.{Stands};
 
 use crate::decide::decide_command;
-use ct_machine::{Outcome, draws_version, has_number};
+use ct_machine::{Command, Outcome, draws_version, has_number};
 use ct_model::{Db, apply};
-use ct_types::{Act, Command, Entry, Memory, Refusal, Reply};
+use ct_types::{Act, Entry, Memory, Refusal, Reply};
 use std::alloc::Global;
 use std::marker::Model;
 

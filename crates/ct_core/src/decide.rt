@@ -5,11 +5,11 @@ ghost use Rattle.ct_machine.specs.Step.{t_schema, int_column, key_at, row_at, ch
 ghost use Rattle.ct_core.specs.Numbers.{AreKeptUpTo};
 
 use crate::grid::show_changes;
-use ct_machine::Outcome;
+use ct_machine::{Command, Outcome};
 use ct_model::{Db, Table, find_table, has_row, net};
 use ct_types::{
-    Act, ColType, Column, Command, Grid, Keep, Key, List, Memory, Op, Refusal, Reply, Row, Schema,
-    Text, Value, Write,
+    Act, ColType, Column, Grid, Keep, Key, List, Memory, Op, Refusal, Reply, Row, Schema, Text,
+    Value, Write,
 };
 use std::alloc::Global;
 

@@ -4,5 +4,5 @@
 mod table;
 mod tracking;
 
-pub use table::create;
+pub use table::{create, is_in_sys};
 pub use tracking::{alter_database, disable, enable};

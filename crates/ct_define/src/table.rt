@@ -279,8 +279,10 @@ fn key_id(columns: &[ColumnDef], names: &[Text]) -> Result<u16, Refusal>
 }
 
 /// Whether the name begins with `sys.` and goes on.
+/// Whether a table of this name, its parts joined, is in the schema `sys`: the name begins with `sys.`, in any ASCII case,
+/// and goes on.
 #[tactic(auto, unfolding(crate::specs::Definitions::is_in_sys, ct_names::specs::Names::same))]
-fn is_in_sys(name: &[u8]) -> bool
+pub fn is_in_sys(name: &[u8]) -> bool
     ensures { result ≡ spec.is_in_sys name.now }
 {
     4 < name.len() && name[..4].eq_ignore_ascii_case(b"sys.")

@@ -32,6 +32,14 @@ pub record Scene : Type 0 where
 abbrev pub scene : Row → Env → (ℕ → Key → VersionRow) → Scene
 scene row env versions = record { row = row; env = env; versions = versions }
 
+-- what the expressions of a statement may read beside a row
+pub record World : Type 0 where
+  pub env : Env
+  pub versions : ℕ → Key → VersionRow
+
+abbrev pub on : World → Row → Scene
+on world row = scene row world.env world.versions
+
 pub record Meaning : Type 0 where
   pub value : Outcome Value
   pub truth : Outcome Truth

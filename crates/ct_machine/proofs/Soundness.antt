@@ -3,9 +3,9 @@ use Rattle.std.proofs.Common.{◌≡◌, ◌≢◌, ℕ, ◌+◌, ◌^◌, ◌�
 use Rattle.std.proofs.lemmas.Int.{ints}
 use Rattle.std.specs.List.{AllByRecursion}
 use Rattle.std.specs.Option.{IsSomeAnd}
-use Rattle.ct_types.specs.declared.command.Command.{Command}
-use Rattle.ct_types.specs.declared.command.Command.TheVariants.{Database, Create, Enable, Insert, Delete, Changes}
-use Rattle.ct_types.specs.declared.command.Journaled.{Journaled}
+use Rattle.ct_machine.specs.declared.command.Command.{Command}
+use Rattle.ct_machine.specs.declared.command.Command.TheVariants.{Database, Create, Enable, Insert, Delete, Changes}
+use Rattle.ct_machine.specs.declared.command.Journaled.{Journaled}
 use Rattle.ct_types.specs.declared.schema.Schema.{Schema}
 use Rattle.ct_types.specs.declared.tracked.Tracked.{Tracked}
 use Rattle.ct_types.specs.declared.entry.Act.{Act}

@@ -1,7 +1,7 @@
 -- What follows of steps and plays. This project's own.
 use Rattle.std.specs.Prelude.{◌≡◌, ℕ, List, [], ◌∷◌, ◌++◌}
-use Rattle.ct_types.specs.declared.command.Command.{Command}
-use Rattle.ct_types.specs.declared.command.Journaled.{Journaled}
+use Rattle.ct_machine.specs.declared.command.Command.{Command}
+use Rattle.ct_machine.specs.declared.command.Journaled.{Journaled}
 use Rattle.ct_types.specs.declared.entry.Act.{Act}
 use Rattle.ct_types.specs.declared.entry.Entry.{Entry}
 use Rattle.ct_types.specs.declared.reply.Reply.{Reply}

@@ -4,6 +4,7 @@ use Rattle.std.specs.List.{list_any, filter_map, find}
 use Rattle.std.specs.Option.{option_to_list}
 use Rattle.std.specs.Ordering.{is_lt, is_eq, is_gt}
 use Rattle.ct_types.specs.Order.{key_cmp}
+use Rattle.ct_types.specs.declared.catalogue.Catalogued.{Catalogued}
 use Rattle.ct_types.specs.declared.value.Key.{Key}
 use Rattle.ct_types.specs.declared.value.Row.{Row}
 use Rattle.ct_types.specs.declared.schema.Schema.{Schema}
@@ -34,6 +35,10 @@ rows_with schema rows key row =
 -- the table of an id, if there is one
 abbrev pub table_of : List Table → ℕ → Option Table
 table_of tables id = find (λ table. table.schema.id == id) tables
+
+-- a table as the catalogue has it, without its rows
+abbrev pub catalogued : Table → Catalogued
+catalogued table = record { schema = table.schema; tracked = table.tracked }
 
 -- whether a version is above the minimum of a table; of one that is not tracked, none is
 abbrev pub is_above : ℕ → Option Tracked → Bool

@@ -1,6 +1,6 @@
 -- A transcript goes on by one block.
 use Rattle.std.proofs.Common.{◌≡◌, ℕ, suc, ◌+◌, List, [], ◌∷◌, ◌++◌, length, sym, ap, ◌∙◌, arith, append_assoc, append-nil}
-use Rattle.ct_types.specs.declared.command.Journaled.{Journaled}
+use Rattle.ct_machine.specs.declared.command.Journaled.{Journaled}
 use Rattle.ct_machine.specs.Transcript.{text_from, block_text, transcript}
 
 -- the last place is as many past the first as there are entries before the last

@@ -2,7 +2,8 @@ ghost use Rattle.std.specs.Prelude.{◌≡◌, ◌++◌, ◌<◌, ◌^◌, OnOk,
 ghost use Rattle.ct_machine.specs.Transcript.{head_text, block_text, transcript};
 
 use crate::reply::add_reply;
-use ct_types::{Bin, Journaled, Memory};
+use ct_machine::Journaled;
+use ct_types::{Bin, Memory};
 use std::alloc::{AllocError, Global};
 
 #[tactic(auto, unfolding(ct_machine::specs::Transcript::head_text))]

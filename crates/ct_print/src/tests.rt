@@ -1,7 +1,7 @@
 use crate::{print_block, print_journal, print_value};
+use ct_machine::{Command, Journaled};
 use ct_types::{
-    Bin, Command, CopyOut, Grid, Journaled, Key, List, Memory, Op, Refusal, Reply, Row, Text,
-    Touched, Value, Verdict,
+    Bin, CopyOut, Grid, Key, List, Memory, Op, Refusal, Reply, Row, Text, Touched, Value, Verdict,
 };
 use std::alloc::Global;
 use std::test::Fail;

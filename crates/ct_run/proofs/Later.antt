@@ -3,8 +3,8 @@ use Rattle.std.proofs.Common.{◌≡◌, ◌<◌, ℕ, List, [], ◌∷◌, ◌+
 use Rattle.std.proofs.lemmas.List.{append_cancel_left}
 use Rattle.std.proofs.lemmas.Option.{none-some, some_pair_parts}
 use Rattle.std.specs.List.{AllByRecursion}
-use Rattle.ct_types.specs.declared.command.Command.{Command}
-use Rattle.ct_types.specs.declared.command.Command.TheVariants.{Database, Create, Enable, Insert, Delete, Changes}
+use Rattle.ct_machine.specs.declared.command.Command.{Command}
+use Rattle.ct_machine.specs.declared.command.Command.TheVariants.{Database, Create, Enable, Insert, Delete, Changes}
 use Rattle.ct_run.specs.Script.{line_text, script_text, IsLater, IsForm, IsScript, IsNoScript}
 use Rattle.ct_run.specs.Reading.{Reads, IsLine, IsNoLater}
 

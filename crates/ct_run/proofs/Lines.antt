@@ -1,8 +1,8 @@
 -- The lines of the later commands.
 use Rattle.std.proofs.Common.{◌≡◌, ◌≤◌, ℕ, List, ◌++◌, codes, get_or, Option, Some, None, option_map, is_some, true, Bor, refl, sym, ap, subst, ◌∙◌, append_assoc, arith}
 use Rattle.std.specs.Fmt.{decimal}
-use Rattle.ct_types.specs.declared.command.Command.{Command}
-use Rattle.ct_types.specs.declared.command.Command.TheVariants.{Database, Create, Enable, Insert, Delete, Changes}
+use Rattle.ct_machine.specs.declared.command.Command.{Command}
+use Rattle.ct_machine.specs.declared.command.Command.TheVariants.{Database, Create, Enable, Insert, Delete, Changes}
 use Rattle.ct_run.specs.Script.{line_text, most_number}
 use Rattle.ct_run.specs.Reading.{Reads, IsBounded, IsInsert, IsDelete, IsChanges, IsLine}
 use Rattle.ct_run.proofs.Readers.{Reads-made, nothing_first, then_second}

@@ -5,9 +5,9 @@ use Rattle.std.proofs.lemmas.Option.{some_pair_parts}
 use Rattle.std.specs.Fmt.{decimal}
 use Rattle.std.specs.Io.KnownBytes.{Appends, Consumes, IsAtEnd}
 use Rattle.std.specs.List.{AllByRecursion}
-use Rattle.ct_types.specs.declared.command.Command.{Command}
-use Rattle.ct_types.specs.declared.command.Command.TheVariants.{Database, Create, Enable, Insert, Delete, Changes}
-use Rattle.ct_types.specs.declared.command.Journaled.{Journaled}
+use Rattle.ct_machine.specs.declared.command.Command.{Command}
+use Rattle.ct_machine.specs.declared.command.Command.TheVariants.{Database, Create, Enable, Insert, Delete, Changes}
+use Rattle.ct_machine.specs.declared.command.Journaled.{Journaled}
 use Rattle.ct_model.specs.Apply.{no_db}
 use Rattle.ct_machine.specs.Machine.{opening}
 use Rattle.ct_machine.specs.Play.{IsInOrder, IsWhole}

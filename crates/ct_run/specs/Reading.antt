@@ -2,8 +2,8 @@
 use Rattle.std.specs.Prelude.{◌≡◌, ℕ, ◌≤◌, ◌<◌, false, List, [], ◌∷◌, ◌++◌, length, slice_index, Option, Some, IfSome}
 use Rattle.std.specs.Char.{is_ascii_digit}
 use Rattle.std.specs.List.{AllByRecursion}
-use Rattle.ct_types.specs.declared.command.Command.{Command}
-use Rattle.ct_types.specs.declared.command.Command.TheVariants.{Insert, Delete, Changes}
+use Rattle.ct_machine.specs.declared.command.Command.{Command}
+use Rattle.ct_machine.specs.declared.command.Command.TheVariants.{Insert, Delete, Changes}
 use Rattle.ct_run.specs.Script.{most_number, IsLater, script_text}
 
 -- The answer of a reader: a value that fits what follows its spelling, exactly where the text begins so. No text begins

@@ -3,7 +3,8 @@ ghost use Rattle.ct_run.specs.Top.{IsRunOf};
 
 use crate::Gate;
 use ct_core::Core;
-use ct_types::{Command, Journaled, List, Memory};
+use ct_machine::{Command, Journaled};
+use ct_types::{List, Memory};
 use std::alloc::Global;
 
 /// The one session of a script.

@@ -5,10 +5,11 @@ ghost use Rattle.std.specs.List.{prefix_len};
 ghost use Rattle.std.specs.Option.{option_map};
 ghost use Rattle.std.specs.Str.Parse.{AllDigits, digits_value};
 ghost use Rattle.ct_run.specs.Reading.{EndsNumber, IsPlainNumeral, IsNumber, IsBounded, IsInsert, IsDelete, IsChanges, IsLine, IsNoLater, Reads};
-ghost use Rattle.ct_types.specs.declared.command.Command.TheVariants.{Database, Create, Enable};
+ghost use Rattle.ct_machine.specs.declared.command.Command.TheVariants.{Database, Create, Enable};
 ghost use Rattle.ct_run.specs.Script.{line_text, script_text, IsForm, IsScript, IsNoScript};
 
-use ct_types::{Command, List, Memory};
+use ct_machine::Command;
+use ct_types::{List, Memory};
 use std::alloc::Global;
 
 const MOST_NUMBER: u64 = 2_147_483_647;

@@ -186,7 +186,7 @@ pub struct Plan {
     pub on: Option<BoundExpr>,
     /// WHERE
     pub filter: Option<BoundExpr>,
-    /// ORDER BY, which is empty where it is not written.
+    /// ORDER BY, which is empty where it is not written: on a joined row and behind it the values of the items.
     pub order: List<OrderBy>,
 }
 

@@ -5,7 +5,6 @@ mod bin;
 mod bound;
 mod catalogue;
 mod column_fit;
-mod command;
 mod copies;
 mod entry;
 mod expr;
@@ -29,7 +28,6 @@ pub use bound::{
 };
 pub use catalogue::{Catalogued, Variable, Variables};
 pub use column_fit::{Misfit, fits, is_of_kind};
-pub use command::{Command, Journaled};
 pub use copies::Copies;
 pub use entry::{Act, Change, Entry, Keep, Kept, Min, Op, Write};
 pub use expr::{ColumnName, Comparison, Expr, ObjectName, RowVersion, Scalar, Term};

@@ -1,7 +1,7 @@
 use Rattle.std.proofs.Common.{arith, refl}
 use Rattle.std.proofs.lemmas.Grind.{common_steps}
 use Rattle.std.proofs.lemmas.List.{take_more}
-use Rattle.ct_types.specs.declared.command.Command.TheVariants.{Database}
+use Rattle.ct_machine.specs.declared.command.Command.TheVariants.{Database}
 use Rattle.ct_machine.proofs.Plays.{IsPlay-push, end_of-push, IsInOrder-push}
 use Rattle.ct_run.proofs.play.play_all.Goals as goal
 

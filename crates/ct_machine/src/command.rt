@@ -1,4 +1,4 @@
-use crate::Reply;
+use ct_types::Reply;
 
 /// What a statement of a session asks for, in the forms that a script may have today.
 #[derive(Clone, Copy, Debug, PartialEq, Eq)]
