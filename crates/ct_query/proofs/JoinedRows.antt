@@ -1,0 +1,88 @@
+-- The rows that the code joins are those of the definition.
+use Rattle.std.proofs.Common.{◌≡◌, Bool, List, [], ◌∷◌, ◌++◌, map, Ok, Err, refl, sym, ap, ◌∙◌, inl, inr, ◌⊎◌, append_assoc}
+use Rattle.ct_query.proofs.Members.{with_none}
+use Rattle.std.proofs.lemmas.List.{map-append}
+use Rattle.ct_types.specs.declared.bound.Join.TheVariants.{One, Inner, Left, Right, Apply}
+use Rattle.ct_types.specs.declared.bound.Plan.{Plan}
+use Rattle.ct_types.specs.declared.refusal.Refusal.{Refusal}
+use Rattle.ct_types.specs.declared.value.Row.{Row}
+use Rattle.ct_expr.specs.Outcomes.{Outcome, ◌>>=◌}
+use Rattle.ct_expr.specs.Meaning.{World}
+use Rattle.ct_query.specs.Answer.{holds, joined_rows, answer_over, answer}
+use Rattle.ct_query.specs.Joins.{Joined, alone, pair, left_only, right_only, row_of, only_source, with_right, with_left, or_else, side_by_side}
+use Rattle.ct_query.specs.Lists.{all_of}
+use Rattle.ct_query.specs.Steps.{row_in, pairs_of_left, pairs_of_right, rows_of_left, rows_of_right}
+use Rattle.ct_query.proofs.Through.{all_of-through, only-through, or_else-through}
+
+-- ON, on a joined row
+abbrev on_joined : World → Plan → Joined → Outcome Bool
+on_joined world plan one = holds world plan.on (row_in plan one)
+
+pairs_of_left-is : (world : World) (plan : Plan) (rights : List Row) (left : Row)
+    → pairs_of_left world plan rights left ≡ (with_right (on_joined world plan) rights left >>= (λ a. Ok (map (row_in plan) a)))
+pairs_of_left-is world plan rights left = only-through (holds world plan.on) (row_in plan) (pair left) rights
+
+pairs_of_right-is : (world : World) (plan : Plan) (lefts : List Row) (right : Row)
+    → pairs_of_right world plan lefts right ≡ (with_left (on_joined world plan) lefts right >>= (λ a. Ok (map (row_in plan) a)))
+pairs_of_right-is world plan lefts right = only-through (holds world plan.on) (row_in plan) (λ left. pair left right) lefts
+
+pub inner_rows : (world : World) (plan : Plan) (lefts rights : List Row) → plan.join ≡ Inner
+    → all_of (pairs_of_left world plan rights) lefts ≡ joined_rows world plan lefts rights
+inner_rows world plan lefts rights is =
+    all_of-through (map (row_in plan)) refl (map-append (row_in plan)) (pairs_of_left world plan rights) (with_right (on_joined world plan) rights) (pairs_of_left-is world plan rights) lefts
+    ∙ rw is
+
+pub left_rows : (world : World) (plan : Plan) (lefts rights : List Row) → plan.join ≡ Left
+    → all_of (rows_of_left world plan rights) lefts ≡ joined_rows world plan lefts rights
+left_rows world plan lefts rights is =
+    all_of-through (map (row_in plan)) refl (map-append (row_in plan)) (rows_of_left world plan rights) (λ left. with_right (on_joined world plan) rights left >>= (λ found. Ok (or_else (left_only left) found)))
+    (λ left. or_else-through (row_in plan) (left_only left) (with_right (on_joined world plan) rights left) (pairs_of_left world plan rights left) (pairs_of_left-is world plan rights left)) lefts
+    ∙ rw is
+
+pub right_rows : (world : World) (plan : Plan) (lefts rights : List Row) → plan.join ≡ Right
+    → all_of (rows_of_right world plan lefts) rights ≡ joined_rows world plan lefts rights
+right_rows world plan lefts rights is =
+    all_of-through (map (row_in plan)) refl (map-append (row_in plan)) (rows_of_right world plan lefts) (λ right. with_left (on_joined world plan) lefts right >>= (λ found. Ok (or_else (right_only right) found)))
+    (λ right. or_else-through (row_in plan) (right_only right) (with_left (on_joined world plan) lefts right) (pairs_of_right world plan lefts right) (pairs_of_right-is world plan lefts right)) rights
+    ∙ rw is
+
+side_by_side-any : (plan : Plan) (lefts rights : List Row) → map (row_of 0 0) (side_by_side lefts rights) ≡ map (row_in plan) (side_by_side lefts rights)
+side_by_side-any plan [] rights = refl
+side_by_side-any plan (left ∷ lefts) [] = refl
+side_by_side-any plan (left ∷ lefts) (right ∷ rights) = ap (λ rows. row_of 0 0 (pair left right) ∷ rows) (side_by_side-any plan lefts rights)
+
+pub applied_rows : (world : World) (plan : Plan) (lefts rights : List Row) → plan.join ≡ Apply
+    → Ok (map (row_of 0 0) (side_by_side lefts rights)) ≡ joined_rows world plan lefts rights
+applied_rows world plan lefts rights is = ap Ok (side_by_side-any plan lefts rights) ∙ rw is
+
+-- the rows that are left to join, before and after one more
+pub applied-more : (whole made next lefts rights more_left more_right : List Row) (left right row : Row)
+    → whole ≡ made ++ map (row_of 0 0) (side_by_side lefts rights) → lefts ≡ left ∷ more_left → rights ≡ right ∷ more_right
+    → row ≡ row_of 0 0 (pair left right) → next ≡ made ++ row ∷ [] → whole ≡ next ++ map (row_of 0 0) (side_by_side more_left more_right)
+applied-more whole made next lefts rights more_left more_right left right row before is_left is_right is e =
+    before ∙ rw (is_left, is_right, e, is) (sym (append_assoc made (row_of 0 0 (pair left right) ∷ []) (map (row_of 0 0) (side_by_side more_left more_right))))
+
+none_beside : (lefts : List Row) → side_by_side lefts [] ≡ []
+none_beside [] = refl
+none_beside (left ∷ lefts) = refl
+
+-- one side has no more
+pub applied-all : (whole made lefts rights : List Row) → whole ≡ made ++ map (row_of 0 0) (side_by_side lefts rights) → (lefts ≡ []) ⊎ (rights ≡ []) → made ≡ whole
+applied-all whole made lefts rights before (inl none) = sym (before ∙ rw (none, with_none))
+applied-all whole made lefts rights before (inr none) = sym (before ∙ rw (none, none_beside, with_none))
+
+alone_rows : (plan : Plan) (rows : List Row) → rows ≡ map (row_in plan) (map alone rows)
+alone_rows plan [] = refl
+alone_rows plan (row ∷ rows) = ap (λ more. row ∷ more) (alone_rows plan rows)
+
+pub one_rows : (world : World) (plan : Plan) (lefts rights : List Row) → plan.join ≡ One → Ok (only_source plan.left lefts) ≡ joined_rows world plan lefts rights
+one_rows world plan lefts rights is = ap Ok (alone_rows plan (only_source plan.left lefts)) ∙ rw is
+
+-- the answer, by what the joined rows come to
+pub answer-over : (world : World) (plan : Plan) (lefts rights rows : List Row) → joined_rows world plan lefts rights ≡ Ok rows → answer world plan lefts rights ≡ answer_over world plan rows
+unfolding answer
+answer-over world plan lefts rights rows e = ap (λ o. o >>= answer_over world plan) e
+
+pub answer-stops : (world : World) (plan : Plan) (lefts rights : List Row) (r : Refusal) → joined_rows world plan lefts rights ≡ Err r → answer world plan lefts rights ≡ Err r
+unfolding answer
+answer-stops world plan lefts rights r e = ap (λ o. o >>= answer_over world plan) e

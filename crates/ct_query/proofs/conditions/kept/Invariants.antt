@@ -1,0 +1,8 @@
+use Rattle.std.proofs.Common.{◌≡◌, take, Ok}
+use Rattle.ct_query.specs.Answer.{holds}
+use Rattle.ct_query.specs.Lists.{only}
+use Rattle.ct_query.specs.Steps.{lent}
+use Rattle.ct_query.proofs.conditions.kept.Given as goal
+
+abbrev pub invariant-loop-row : goal.invariant-loop-row
+invariant-loop-row g l = only (holds (record { env = l.env; versions = g.L.Versions.row_of l.versions }) l.condition) (take l.row-index l.rows) ≡ Ok (lent l.found)

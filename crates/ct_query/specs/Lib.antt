@@ -1,0 +1,6 @@
+pub mod Lists
+pub mod Joins
+pub mod Sorting
+pub mod Answer
+pub mod Steps
+pub mod Laws

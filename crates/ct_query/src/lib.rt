@@ -1,0 +1,17 @@
+//! What a SELECT answers over the rows of its sources: joins, WHERE, ORDER BY and the list of items.
+#![tactic(auto)]
+
+mod conditions;
+mod joins;
+mod laws;
+mod lists;
+mod query;
+mod shown;
+mod sorting;
+#[cfg(test)]
+mod tests;
+
+pub use laws::{
+    inner_is_left_paired, one_order, orders_stably, right_mirrors_left, same_pairs, true_keeps_all,
+};
+pub use query::select;
