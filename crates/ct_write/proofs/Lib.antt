@@ -1,0 +1,11 @@
+pub mod Accepting
+pub mod Each
+pub mod Fits
+pub mod Giving
+pub mod Keys
+pub mod Loops
+pub mod Bits
+pub mod Parts
+pub mod Repeats
+pub mod Statements
+pub mod Typed

@@ -1,0 +1,6 @@
+use Rattle.std.proofs.Common.{◌≡◌, map}
+use Rattle.ct_write.specs.Writes.{recorded}
+use Rattle.ct_write.proofs.statement.record_all.Given as goal
+
+abbrev pub invariant-loop-changed : goal.invariant-loop-changed
+invariant-loop-changed l = l.made ≡ map (recorded l.table l.op l.mask l.context) l.yielded

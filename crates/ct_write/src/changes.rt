@@ -1,0 +1,153 @@
+ghost use Rattle.std.specs.Prelude.{◌≡◌, map, IfOk};
+ghost use Rattle.ct_expr.specs.Outcomes.{Gives};
+ghost use Rattle.ct_write.specs.Rows as spec;
+ghost use Rattle.ct_write.specs.Steps.{each};
+
+use crate::lists::add;
+use crate::targets::targets;
+use crate::values::{assign, nulls, set_columns, set_values, tuple_values};
+use ct_expr::{Env, Versions};
+use ct_model::key_of_row;
+use ct_types::{BoundExpr, BoundSet, Copies, Key, List, Memory, Refusal, Row, RowChange, Schema};
+use sqlite_items::Items;
+use std::alloc::Global;
+
+/// A row that a statement changes: its key, and the row after the change; none where it is deleted.
+#[derive(Debug, Drop)]
+pub(crate) struct Changed {
+    pub key: Key,
+    pub row: Option<Row>,
+}
+
+fn insert_one<L: Versions>(
+    alloc: Global,
+    schema: &Schema,
+    columns: &[u16],
+    tuple: &[BoundExpr],
+    env: &Env,
+    versions: &L,
+) -> Result<Changed, Refusal>
+    ensures { Gives (spec.inserted (record { env = env.now; versions = L.row_of versions.now }) schema.now columns.now tuple.now) result }
+{
+    let none = Row(List::new(alloc));
+    let values = tuple_values(alloc, tuple, &none, env, versions)?;
+    let mut row = nulls(alloc, schema.columns.as_slice())?;
+    assign(alloc, columns, values.as_slice(), &mut row)?;
+    let row = Row(List::from_vec(row));
+    let key = key_of_row(alloc, schema, &row)?;
+    Ok(Changed {
+        key,
+        row: Some(row),
+    })
+}
+
+fn insert_all<L: Versions>(
+    alloc: Global,
+    schema: &Schema,
+    columns: &[u16],
+    tuples: &[Items<BoundExpr>],
+    env: &Env,
+    versions: &L,
+) -> Result<List<Changed>, Refusal>
+    ensures { Gives (each (spec.inserted (record { env = env.now; versions = L.row_of versions.now }) schema.now columns.now) tuples.now) result }
+{
+    let mut changes = List::new(alloc);
+    for tuple in tuples {
+        let made = insert_one(alloc, schema, columns, tuple.as_slice(), env, versions)?;
+        add(&mut changes, made)?;
+    }
+    Ok(changes)
+}
+
+fn update_one<L: Versions>(
+    alloc: Global,
+    schema: &Schema,
+    sets: &[BoundSet],
+    before: &Row,
+    env: &Env,
+    versions: &L,
+) -> Result<Changed, Refusal>
+    ensures { Gives (spec.updated (record { env = env.now; versions = L.row_of versions.now }) schema.now sets.now before.now) result }
+{
+    let values = set_values(alloc, sets, before, env, versions)?;
+    let columns = set_columns(alloc, sets)?;
+    let mut row = before.0.copy(alloc)?.into_vec();
+    assign(alloc, columns.as_slice(), values.as_slice(), &mut row)?;
+    Ok(Changed {
+        key: key_of_row(alloc, schema, before)?,
+        row: Some(Row(List::from_vec(row))),
+    })
+}
+
+fn update_all<L: Versions>(
+    alloc: Global,
+    schema: &Schema,
+    sets: &[BoundSet],
+    rows: &[Row],
+    env: &Env,
+    versions: &L,
+) -> Result<List<Changed>, Refusal>
+    ensures { Gives (each (spec.updated (record { env = env.now; versions = L.row_of versions.now }) schema.now sets.now) rows.now) result }
+{
+    let mut changes = List::new(alloc);
+    for before in rows {
+        add(
+            &mut changes,
+            update_one(alloc, schema, sets, before, env, versions)?,
+        )?;
+    }
+    Ok(changes)
+}
+
+fn delete_all(alloc: Global, schema: &Schema, rows: &[Row]) -> Result<List<Changed>, Memory>
+    ensures { IfOk result (λ changes. changes ≡ map (spec.deleted schema.now) rows.now) }
+{
+    let mut changes = List::new(alloc);
+    for row in rows {
+        changes.push(Changed {
+            key: key_of_row(alloc, schema, row)?,
+            row: None,
+        })?;
+    }
+    Ok(changes)
+}
+
+/// The rows that a statement changes, in the order of VALUES or of the rows, before they are fitted.
+pub(crate) fn changes_of<L: Versions>(
+    alloc: Global,
+    schema: &Schema,
+    change: &RowChange,
+    rows: &[Row],
+    env: &Env,
+    versions: &L,
+) -> Result<List<Changed>, Refusal>
+    ensures { Gives (spec.changes_of (record { env = env.now; versions = L.row_of versions.now }) schema.now change.now rows.now) result }
+{
+    match change {
+        RowChange::Insert { columns, tuples } => {
+            insert_all(
+                alloc,
+                schema,
+                columns.as_slice(),
+                tuples.as_slice(),
+                env,
+                versions,
+            )
+        }
+        RowChange::Update { sets, filter } => {
+            let chosen = targets(alloc, filter, rows, env, versions)?;
+            update_all(
+                alloc,
+                schema,
+                sets.as_slice(),
+                chosen.as_slice(),
+                env,
+                versions,
+            )
+        }
+        RowChange::Delete { filter } => {
+            let chosen = targets(alloc, filter, rows, env, versions)?;
+            Ok(delete_all(alloc, schema, chosen.as_slice())?)
+        }
+    }
+}

@@ -1,0 +1,45 @@
+ghost use Rattle.std.specs.Prelude.{◌≡◌, ◌^◌, ◌<◌, length};
+ghost use Rattle.std.specs.List.{list_any};
+ghost use Rattle.ct_write.specs.Duplicates as spec;
+
+use ct_model::has_row;
+use ct_types::{Key, Op, Row, Schema, Write, cmp_key};
+use std::cmp::Ordering;
+
+fn is_insert(op: Op) -> bool
+    ensures { result ≡ spec.is_insert op }
+{
+    op == Op::Insert
+}
+
+fn inserts_key(key: &Key, write: &Write) -> bool
+    ensures { result ≡ spec.inserts_key key.now write.now }
+{
+    is_insert(write.op) && cmp_key(&write.key, key) == Ordering::Equal
+}
+
+fn is_inserted(earlier: &[Write], key: &Key) -> bool
+    ensures { result ≡ list_any (spec.inserts_key key.now) earlier.now }
+{
+    earlier.iter().any(|write| inserts_key(key, write))
+}
+
+fn repeats(schema: &Schema, rows: &[Row], earlier: &[Write], write: &Write) -> bool
+    ensures { result ≡ spec.repeats schema.now rows.now earlier.now write.now }
+{
+    is_insert(write.op) && (has_row(schema, rows, &write.key) || is_inserted(earlier, &write.key))
+}
+
+/// The place, counted from 0, of the first insert whose key one of the rows or an earlier insert has; none where there is
+/// none. An INSERT of such a key is refused with 2627, as T-SQL refuses it.
+pub fn duplicate(writes: &[Write], rows: &[Row], schema: &Schema) -> Option<u32>
+    requires { length writes.now < 2 ^ 32 }
+    ensures { result ≡ spec.duplicate schema.now rows.now writes.now }
+{
+    for (place, write) in writes.iter().enumerate() {
+        if repeats(schema, rows, &writes[..place], write) {
+            return Some(place as u32);
+        }
+    }
+    None
+}

@@ -1,0 +1,20 @@
+//! What INSERT, UPDATE and DELETE write: the rows that they change, fitted to their columns, and the keys that an INSERT
+//! repeats.
+#![tactic(auto)]
+
+mod changes;
+mod contexts;
+mod duplicates;
+mod fitting;
+mod laws;
+mod lists;
+mod masks;
+mod statement;
+mod targets;
+#[cfg(test)]
+mod tests;
+mod values;
+
+pub use duplicates::duplicate;
+pub use laws::{are_accepted, deletes_all, updates_keep_keys};
+pub use statement::writes;
