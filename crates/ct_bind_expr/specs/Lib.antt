@@ -1,0 +1,4 @@
+pub mod Places
+pub mod Versions
+pub mod Walk
+pub mod Walked

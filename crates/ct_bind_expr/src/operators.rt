@@ -1,0 +1,199 @@
+ghost use Rattle.std.specs.Prelude.{◌≡◌};
+ghost use Rattle.ct_names.specs.Answers.{Gives};
+ghost use Rattle.ct_bind_expr.specs.Places.{of_kind as judged};
+ghost use Rattle.ct_bind_expr.specs.Walk as spec;
+ghost use Rattle.ct_bind_expr.specs.Walked.{both as two_walked, three as three_walked, of_one, of_two, of_three};
+
+use crate::kinds::{any_value, go_together, of_kind};
+use crate::made::boxed;
+use crate::place::{Typed, Walked};
+use ct_kinds::{Kind, either};
+use ct_names::literal;
+use ct_types::{Bin, BoundExpr, Comparison, Copies, Refusal, Text};
+use sqlite_items::Boxed;
+use std::alloc::Global;
+
+fn number(expr: BoundExpr) -> Typed
+    ensures { result ≡ record { expr = expr; kind = Kind.Number } }
+{
+    Typed {
+        expr,
+        kind: Kind::Number,
+    }
+}
+
+fn condition(expr: BoundExpr) -> Typed
+    ensures { result ≡ record { expr = expr; kind = Kind.Condition } }
+{
+    Typed {
+        expr,
+        kind: Kind::Condition,
+    }
+}
+
+/// An operand of this kind, in a box.
+fn boxed_as(alloc: Global, wanted: Kind, it: Typed) -> Result<Boxed<BoundExpr>, Refusal>
+    ensures { Gives (judged wanted it) result }
+{
+    let expr = of_kind(wanted, it)?;
+    Ok(boxed(alloc, expr)?)
+}
+
+/// Both operands, or the refusal of the first that is refused.
+fn both(left: Walked, right: Walked) -> Result<(Typed, Typed), Refusal>
+    ensures { result ≡ two_walked left right }
+{
+    let left = left?;
+    let right = right?;
+    Ok((left, right))
+}
+
+#[tactic(auto, unfolding(crate::specs::Walk::min_valid_version))]
+pub(crate) fn min_valid_version(alloc: Global, table: Walked) -> Walked
+    ensures { Gives (of_one spec.min_valid_version table) result }
+{
+    let table = boxed_as(alloc, Kind::Number, table?)?;
+    Ok(number(BoundExpr::MinValidVersion(table)))
+}
+
+#[tactic(auto, unfolding(crate::specs::Walk::is_column_in_mask))]
+pub(crate) fn is_column_in_mask(alloc: Global, column: Walked, mask: Walked) -> Walked
+    ensures { Gives (of_two spec.is_column_in_mask column mask) result }
+{
+    let (column, mask) = both(column, mask)?;
+    let column = boxed_as(alloc, Kind::Number, column)?;
+    let mask = boxed_as(alloc, Kind::Bytes, mask)?;
+    Ok(number(BoundExpr::IsColumnInMask(column, mask)))
+}
+
+#[tactic(auto, unfolding(crate::specs::Walk::object_id))]
+pub(crate) fn object_id(alloc: Global, name: Walked) -> Walked
+    ensures { Gives (of_one spec.object_id name) result }
+{
+    let name = boxed_as(alloc, Kind::Text, name?)?;
+    Ok(number(BoundExpr::ObjectId(name)))
+}
+
+/// All three operands, or the refusal of the first that is refused.
+fn three(first: Walked, second: Walked, third: Walked) -> Result<(Typed, Typed, Typed), Refusal>
+    ensures { result ≡ three_walked first second third }
+{
+    let (first, second) = both(first, second)?;
+    let third = third?;
+    Ok((first, second, third))
+}
+
+pub(crate) fn column_property(
+    alloc: Global,
+    table: Walked,
+    column: Walked,
+    property: Walked,
+) -> Walked
+    ensures { Gives (of_three spec.column_property table column property) result }
+{
+    let (table, column, property) = three(table, column, property)?;
+    property_of_column(alloc, table, column, property)
+}
+
+#[tactic(auto, unfolding(crate::specs::Walk::column_property))]
+fn property_of_column(
+    alloc: Global,
+    table: Typed,
+    column: Typed,
+    property: Typed,
+) -> Result<Typed, Refusal>
+    ensures { Gives (spec.column_property table column property) result }
+{
+    let table = boxed_as(alloc, Kind::Number, table)?;
+    let column = boxed_as(alloc, Kind::Text, column)?;
+    let property = boxed_as(alloc, Kind::Text, property)?;
+    Ok(number(BoundExpr::ColumnProperty(table, column, property)))
+}
+
+#[tactic(auto, unfolding(crate::specs::Walk::if_null))]
+pub(crate) fn if_null(alloc: Global, value: Walked, instead: Walked) -> Walked
+    ensures { Gives (of_two spec.if_null value instead) result }
+{
+    let (value, instead) = both(value, instead)?;
+    if !go_together(value.kind, instead.kind) {
+        return Err(Refusal::TypeClash);
+    }
+    let kind = either(value.kind, instead.kind);
+    Ok(Typed {
+        expr: BoundExpr::IfNull(boxed(alloc, value.expr)?, boxed(alloc, instead.expr)?),
+        kind,
+    })
+}
+
+#[tactic(auto, unfolding(crate::specs::Walk::negative))]
+pub(crate) fn negative(alloc: Global, operand: Walked) -> Walked
+    ensures { Gives (of_one spec.negative operand) result }
+{
+    let operand = boxed_as(alloc, Kind::Number, operand?)?;
+    Ok(number(BoundExpr::Negative(operand)))
+}
+
+#[tactic(auto, unfolding(crate::specs::Walk::compare))]
+pub(crate) fn compare(alloc: Global, operator: Comparison, left: Walked, right: Walked) -> Walked
+    ensures { Gives (of_two (spec.compare operator) left right) result }
+{
+    let (left, right) = both(left, right)?;
+    if !go_together(left.kind, right.kind) {
+        return Err(Refusal::TypeClash);
+    }
+    Ok(condition(BoundExpr::Compare(
+        operator,
+        boxed(alloc, left.expr)?,
+        boxed(alloc, right.expr)?,
+    )))
+}
+
+#[tactic(auto, unfolding(crate::specs::Walk::is_null))]
+pub(crate) fn is_null(alloc: Global, operand: Walked) -> Walked
+    ensures { Gives (of_one spec.is_null operand) result }
+{
+    let operand = any_value(operand?)?;
+    Ok(condition(BoundExpr::IsNull(boxed(alloc, operand)?)))
+}
+
+#[tactic(auto, unfolding(crate::specs::Walk::is_not_null))]
+pub(crate) fn is_not_null(alloc: Global, operand: Walked) -> Walked
+    ensures { Gives (of_one spec.is_not_null operand) result }
+{
+    let operand = any_value(operand?)?;
+    Ok(condition(BoundExpr::IsNotNull(boxed(alloc, operand)?)))
+}
+
+#[tactic(auto, unfolding(crate::specs::Walk::negated))]
+pub(crate) fn negated(alloc: Global, operand: Walked) -> Walked
+    ensures { Gives (of_one spec.negated operand) result }
+{
+    let operand = boxed_as(alloc, Kind::Condition, operand?)?;
+    Ok(condition(BoundExpr::Not(operand)))
+}
+
+#[tactic(auto, unfolding(crate::specs::Walk::number_literal))]
+pub(crate) fn number_literal(digits: &Text) -> Walked
+    ensures { result ≡ spec.number_literal digits.now }
+{
+    let value = literal(digits)?;
+    Ok(number(BoundExpr::Number(value)))
+}
+
+pub(crate) fn text_literal(alloc: Global, text: &Text) -> Walked
+    ensures { Gives (Ok (spec.text_typed text.now)) result }
+{
+    Ok(Typed {
+        expr: BoundExpr::Text(text.copy(alloc)?),
+        kind: Kind::Text,
+    })
+}
+
+pub(crate) fn bytes_literal(alloc: Global, bytes: &Bin) -> Walked
+    ensures { Gives (Ok (spec.bytes_typed bytes.now)) result }
+{
+    Ok(Typed {
+        expr: BoundExpr::Bytes(bytes.copy(alloc)?),
+        kind: Kind::Bytes,
+    })
+}
