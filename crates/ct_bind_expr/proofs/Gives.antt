@@ -2,7 +2,7 @@
 use Rattle.std.proofs.Common.{◌≡◌, ℕ, suc, ◌+◌, ◌<◌, List, [], ◌∷◌, ◌++◌, map, length, get_or, drop, append_assoc, drop-cons, arith, Ok, Err, refl, sym, ap, ◌∙◌}
 use Rattle.ct_types.specs.declared.refusal.Refusal.{Refusal}
 use Rattle.ct_types.specs.declared.refusal.Refusal.TheVariants.{Memory}
-use Rattle.ct_names.specs.Answers.{Answer, ◌>>=◌, Gives}
+use Rattle.ct_types.specs.Answers.{Answer, ◌>>=◌, Gives}
 use Rattle.ct_bind_expr.specs.declared.place.Typed.{Typed}
 use Rattle.ct_bind_expr.specs.declared.place.WalkedTerm.{WalkedTerm}
 use Rattle.ct_bind_expr.specs.Versions.{operand}

@@ -5,7 +5,7 @@ use Rattle.ct_types.specs.declared.bound.BoundExpr.{BoundExpr}
 use Rattle.ct_types.specs.declared.bound.BoundTerm.{BoundTerm}
 use Rattle.ct_kinds.specs.declared.kind.Kind.{Kind}
 use Rattle.ct_kinds.specs.declared.kind.Kind.TheVariants.{Number}
-use Rattle.ct_names.specs.Answers.{Answer, ◌>>=◌, ◌>>◌, each, onto}
+use Rattle.ct_types.specs.Answers.{Answer, ◌>>=◌, ◌>>◌, each, onto}
 use Rattle.ct_bind_expr.specs.declared.place.Typed.{Typed}
 use Rattle.ct_bind_expr.specs.declared.place.WalkedTerm.{WalkedTerm}
 use Rattle.ct_bind_expr.specs.Places.{closed, of_kind}

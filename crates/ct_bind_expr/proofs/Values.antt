@@ -3,7 +3,7 @@ use Rattle.std.proofs.Common.{◌≡◌, List, [], ◌∷◌, ◌++◌, Ok, Err,
 use Rattle.ct_types.specs.declared.bound.BoundExpr.{BoundExpr}
 use Rattle.ct_types.specs.declared.refusal.Refusal.{Refusal}
 use Rattle.ct_kinds.specs.declared.kind.Kind.{Kind}
-use Rattle.ct_names.specs.Answers.{◌>>=◌, onto}
+use Rattle.ct_types.specs.Answers.{◌>>=◌, onto}
 use Rattle.ct_names.proofs.Walks.{onto_one}
 use Rattle.ct_bind_expr.specs.declared.place.Place.{Place}
 use Rattle.ct_bind_expr.specs.Versions.{Walk, operand, values}

@@ -13,7 +13,7 @@ use Rattle.ct_types.specs.declared.refusal.Refusal.TheVariants.{CountClash}
 use Rattle.ct_types.specs.declared.schema.Schema.{Schema}
 use Rattle.ct_kinds.specs.declared.kind.Kind.{Kind}
 use Rattle.ct_kinds.specs.declared.kind.Kind.TheVariants.{Number}
-use Rattle.ct_names.specs.Answers.{Answer, ◌>>=◌, ◌>>◌, demand, each}
+use Rattle.ct_types.specs.Answers.{Answer, ◌>>=◌, ◌>>◌, demand, each}
 use Rattle.ct_names.specs.Catalogue.{tracked_table}
 use Rattle.ct_bind_expr.specs.declared.place.Typed.{Typed}
 use Rattle.ct_bind_expr.specs.declared.place.Place.{Place}

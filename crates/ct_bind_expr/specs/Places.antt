@@ -8,7 +8,7 @@ use Rattle.ct_types.specs.declared.refusal.Refusal.TheVariants.{NoColumn, Ambigu
 use Rattle.ct_kinds.specs.declared.kind.Kind.{Kind}
 use Rattle.ct_kinds.specs.declared.kind.Kind.TheVariants.{Condition}
 use Rattle.ct_kinds.specs.Kinds.{is_value, suits}
-use Rattle.ct_names.specs.Answers.{Answer, ◌>>=◌, ◌>>◌, demand}
+use Rattle.ct_types.specs.Answers.{Answer, ◌>>=◌, ◌>>◌, demand}
 use Rattle.ct_names.specs.Names.{same}
 use Rattle.ct_bind_expr.specs.declared.place.Typed.{Typed}
 use Rattle.ct_bind_expr.specs.declared.place.Shown.{Shown}

@@ -23,7 +23,7 @@ use Rattle.ct_types.specs.declared.refusal.Refusal.TheVariants.{NoColumn, TypeCl
 use Rattle.ct_kinds.specs.declared.kind.Kind.{Kind}
 use Rattle.ct_kinds.specs.declared.kind.Kind.TheVariants.{Number, Text, Bytes, Condition, Null}
 use Rattle.ct_kinds.specs.Kinds.{kind_of_type, either}
-use Rattle.ct_names.specs.Answers.{Answer, ◌>>=◌, ◌>>◌, demand, each}
+use Rattle.ct_types.specs.Answers.{Answer, ◌>>=◌, ◌>>◌, demand, each}
 use Rattle.ct_names.specs.Names.{same}
 use Rattle.ct_names.specs.Numbers.{literal}
 use Rattle.ct_names.specs.Catalogue.{tracked_table, declared_variable}

@@ -1,7 +1,7 @@
 //! Chains, sums and tuples, whose parts are walked already.
 
 ghost use Rattle.std.specs.Prelude.{◌≡◌, map, IfOk};
-ghost use Rattle.ct_names.specs.Answers.{Gives, each};
+ghost use Rattle.ct_types.specs.Answers.{Gives, each};
 ghost use Rattle.ct_types.specs.declared.refusal.Refusal.TheVariants.{Memory as out_of_memory};
 ghost use Rattle.ct_bind_expr.specs.Places.{closed};
 ghost use Rattle.ct_bind_expr.specs.Versions as versions;

@@ -1,6 +1,6 @@
 ghost use Rattle.std.specs.Prelude.{◌≡◌, ◌++◌, count_by, find, IfOk};
 ghost use Rattle.std.specs.Option.{option_copied};
-ghost use Rattle.ct_names.specs.Answers.{Gives};
+ghost use Rattle.ct_types.specs.Answers.{Gives};
 ghost use Rattle.ct_bind_expr.specs.Places as spec;
 
 use crate::place::{Output, Place, Shape, Shown, Spot, Typed};

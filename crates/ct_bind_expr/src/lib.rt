@@ -12,7 +12,6 @@ mod versions;
 mod walk;
 
 pub use kinds::{any_value, of_kind};
-pub use made::push;
 pub use place::{Output, Place, Shape, Shown, Spot, Typed, Walked};
 pub use versions::key_columns;
 pub use walk::Binder;

@@ -6,14 +6,6 @@ use sqlite_items::{Boxed, Items};
 use std::alloc::Global;
 
 /// Adds an item at the end.
-pub fn push<T: Drop>(made: &mut List<T>, item: T) -> Result<(), Memory>
-    ensures { OnOk result (made.new ≡ made.old ++ item ∷ []) }
-{
-    made.push(item)?;
-    Ok(())
-}
-
-/// Adds an item at the end.
 pub(crate) fn add<T: Drop>(made: &mut Items<T>, item: T) -> Result<(), Memory>
     ensures { OnOk result (made.new ≡ made.old ++ item ∷ []) }
 {

@@ -1,5 +1,5 @@
 ghost use Rattle.std.specs.Prelude.{◌≡◌};
-ghost use Rattle.ct_names.specs.Answers.{Gives};
+ghost use Rattle.ct_types.specs.Answers.{Gives};
 ghost use Rattle.ct_bind_expr.specs.Places.{of_kind as judged};
 ghost use Rattle.ct_bind_expr.specs.Walk as spec;
 ghost use Rattle.ct_bind_expr.specs.Walked.{both as two_walked, three as three_walked, of_one, of_two, of_three};

@@ -1,14 +1,15 @@
 ghost use Rattle.std.specs.Prelude.{◌≡◌, [], IfOk};
 ghost use Rattle.std.specs.Option.{option_copied};
-ghost use Rattle.ct_names.specs.Answers.{Gives, each_after};
+ghost use Rattle.ct_types.specs.Answers.{Gives, each_after};
 ghost use Rattle.ct_kinds.specs.WellFormed as kinds;
 ghost use Rattle.ct_bind_expr.specs.Versions as spec;
 
 use crate::copy::copy_expr;
-use crate::made::push;
 use ct_kinds::{Kind, kind_of_type};
 use ct_names::{is_among, place_after, place_of, same_name};
-use ct_types::{BoundExpr, Column, Copies, List, Memory, Refusal, Schema, Text, VersionColumn};
+use ct_types::{
+    BoundExpr, Column, Copies, List, Memory, Refusal, Schema, Text, VersionColumn, push,
+};
 use sqlite_items::Items;
 use std::alloc::Global;
 

@@ -1,12 +1,12 @@
 ghost use Rattle.std.specs.Prelude.{◌≡◌, map, IfOk};
-ghost use Rattle.ct_names.specs.Answers.{Gives};
+ghost use Rattle.ct_types.specs.Answers.{Gives};
 ghost use Rattle.ct_bind_expr.specs.Versions as versions;
 ghost use Rattle.ct_bind_expr.specs.Walk as spec;
 ghost use Rattle.ct_bind_expr.specs.Walked.{walked, scalar_with};
 
 use crate::chains::{conjunction, disjunction, product, settled, sum, tuple_of, version_with};
 use crate::columns::column;
-use crate::made::{boxed, push};
+use crate::made::boxed;
 use crate::operators::{
     bytes_literal, column_property, compare, if_null, is_column_in_mask, is_not_null, is_null,
     min_valid_version, negated, negative, number_literal, object_id, text_literal,
@@ -17,7 +17,7 @@ use ct_kinds::{Kind, kind_of_type};
 use ct_names::{declared_variable, same_name, tracked_table};
 use ct_types::{
     BoundExpr, BoundRowVersion, BoundScalar, Catalogued, Copies, Expr, List, Memory, Refusal,
-    Scalar, Schema, Term, Text, Variable,
+    Scalar, Schema, Term, Text, Variable, push,
 };
 use sqlite_items::Items;
 use std::alloc::Global;

@@ -18,7 +18,7 @@ use Rattle.ct_types.specs.declared.stmt.Retention.{Retention}
 use Rattle.ct_types.specs.declared.stmt.TrackingOptions.{TrackingOptions}
 use Rattle.ct_types.specs.declared.refusal.Refusal.TheVariants.{Exists, BadTable, TooMany, AlreadyTracked, TrackingOff, TablesTracked}
 use Rattle.ct_model.specs.Schemas.{change_columns}
-use Rattle.ct_names.specs.Answers.{Answer, ◌>>=◌, ◌>>◌, demand, or_refuse, each}
+use Rattle.ct_types.specs.Answers.{Answer, ◌>>=◌, ◌>>◌, demand, or_refuse, each}
 use Rattle.ct_names.specs.Names.{same, is_among, table_name}
 use Rattle.ct_names.specs.Numbers.{column_type, retention_of}
 use Rattle.ct_names.specs.Catalogue.{table_named, existing_table, tracked_table}

@@ -1,6 +1,6 @@
 ghost use Rattle.std.specs.Prelude.{◌≡◌, ◌≤◌, ◌++◌, ◌∷◌, [], map, length, filter, IfOk};
 ghost use Rattle.std.specs.List.{list_all};
-ghost use Rattle.ct_names.specs.Answers.{Gives, each};
+ghost use Rattle.ct_types.specs.Answers.{Gives, each};
 ghost use Rattle.ct_define.specs.Definitions as spec;
 
 use ct_names::{column_type, is_among, same_name, table_name, table_named};

@@ -1,5 +1,5 @@
 ghost use Rattle.std.specs.Prelude.{◌≡◌, length, filter, is_some};
-ghost use Rattle.ct_names.specs.Answers.{Gives};
+ghost use Rattle.ct_types.specs.Answers.{Gives};
 ghost use Rattle.ct_define.specs.Definitions as spec;
 
 use ct_names::{existing_table, place_after, retention_of, table_name, tracked_table};

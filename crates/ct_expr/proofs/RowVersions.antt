@@ -8,12 +8,12 @@ use Rattle.ct_types.specs.declared.refusal.Refusal.TheVariants.{Memory}
 use Rattle.ct_types.specs.declared.tracked.VersionRow.{VersionRow}
 use Rattle.ct_types.specs.declared.value.Key.{Key}
 use Rattle.ct_types.specs.declared.value.Value.{Value}
-use Rattle.ct_expr.specs.Outcomes.{Outcome, ◌>>=◌}
+use Rattle.ct_types.specs.Answers.{Answer, ◌>>=◌}
 use Rattle.ct_expr.specs.Meaning.{Scene, Meaning, Operand, meaning_rule, row_version_rule, scalar_rule, operand_rule, row_version, key}
 
 pub row_version_is : (s : Scene) (x : BoundRowVersion)
     → row_version s x ≡ (key s (out-BoundRowVersion x).values >>= (λ made. Ok (made, s.versions (out-BoundRowVersion x).table made)))
-row_version_is s x = fold_out-BoundRowVersion Meaning (Outcome (Key × VersionRow)) (Outcome Value) Operand (meaning_rule s) (row_version_rule s) scalar_rule operand_rule x
+row_version_is s x = fold_out-BoundRowVersion Meaning (Answer (Key × VersionRow)) (Answer Value) Operand (meaning_rule s) (row_version_rule s) scalar_rule operand_rule x
 
 pub found : (s : Scene) (x : BoundRowVersion) (parts : List BoundExpr) (made : Key) (row : VersionRow)
     → parts ≡ (out-BoundRowVersion x).values → key s parts ≡ Ok made → row ≡ s.versions (out-BoundRowVersion x).table made → row_version s x ≡ Ok (made, row)

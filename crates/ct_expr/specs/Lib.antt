@@ -1,4 +1,3 @@
-pub mod Outcomes
 pub mod Logic
 pub mod Numbers
 pub mod Functions

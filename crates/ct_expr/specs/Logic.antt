@@ -4,6 +4,12 @@ use Rattle.std.specs.Prelude.{Bool, true, false, Option, Some, None}
 abbrev pub Truth : Type 0
 Truth = Option Bool
 
+-- unknown is not true
+abbrev pub is_true : Truth → Bool
+is_true (Some true) = true
+is_true (Some false) = false
+is_true None = false
+
 abbrev pub not3 : Truth → Truth
 not3 (Some true) = Some false
 not3 (Some false) = Some true

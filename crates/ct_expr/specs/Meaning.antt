@@ -3,7 +3,7 @@
 -- Overflow exactly where a sum, difference, product or sign anywhere in it does not fit 64 bits.
 --
 -- A condition has no value, and a value is no truth; where an expression is well formed, neither is asked for.
-use Rattle.std.specs.Prelude.{ℕ, pos, Bool, true, false, not, List, [], ◌∷◌, ◌++◌, map, slice_get, Some, None, Ok, if◌then◌else◌}
+use Rattle.std.specs.Prelude.{ℕ, pos, Bool, true, false, not, List, [], ◌∷◌, ◌++◌, map, slice_get, Option, Some, None, Ok, if◌then◌else◌}
 use Rattle.std.specs.Option.{option_map}
 use Rattle.ct_types.specs.declared.bound.BoundExpr.{BoundExpr}
 use Rattle.ct_types.specs.declared.bound.BoundExpr.TheOpen as e
@@ -18,8 +18,8 @@ use Rattle.ct_types.specs.declared.value.Row.{Row}
 use Rattle.ct_types.specs.declared.value.Value.{Value}
 use Rattle.ct_types.specs.declared.value.Value.TheVariants as v
 use Rattle.ct_expr.specs.declared.env.Env.{Env}
-use Rattle.ct_expr.specs.Outcomes.{Outcome, ◌>>=◌}
-use Rattle.ct_expr.specs.Logic.{Truth, not3, and3, or3}
+use Rattle.ct_types.specs.Answers.{Answer, ◌>>=◌}
+use Rattle.ct_expr.specs.Logic.{Truth, is_true, not3, and3, or3}
 use Rattle.ct_expr.specs.Numbers.{plus, minus, times, negative, compare, is_null}
 use Rattle.ct_expr.specs.Functions.{or_null, counted_or_null, if_null, object_id, column_property, min_valid_version, is_column_in_mask, version_column}
 
@@ -41,22 +41,22 @@ abbrev pub on : World → Row → Scene
 on world row = scene row world.env world.versions
 
 pub record Meaning : Type 0 where
-  pub value : Outcome Value
-  pub truth : Outcome Truth
+  pub value : Answer Value
+  pub truth : Answer Truth
 
 -- ---- what is made of the parts
 
-abbrev pub of_one : {A : Type 0} → (Value → A) → Meaning → Outcome A
+abbrev pub of_one : {A : Type 0} → (Value → A) → Meaning → Answer A
 of_one f a = a.value >>= (λ x. Ok (f x))
 
-abbrev pub of_two : {A : Type 0} → (Value → Value → A) → Meaning → Meaning → Outcome A
+abbrev pub of_two : {A : Type 0} → (Value → Value → A) → Meaning → Meaning → Answer A
 of_two f a b = a.value >>= (λ x. b.value >>= (λ y. Ok (f x y)))
 
-abbrev pub of_three : {A : Type 0} → (Value → Value → Value → A) → Meaning → Meaning → Meaning → Outcome A
+abbrev pub of_three : {A : Type 0} → (Value → Value → Value → A) → Meaning → Meaning → Meaning → Answer A
 of_three f a b c = a.value >>= (λ x. b.value >>= (λ y. c.value >>= (λ z. Ok (f x y z))))
 
 -- a chain, from left to right, behind what it has come to so far
-abbrev pub chain : {A X : Type 0} → (A → X → Outcome A) → A → List X → Outcome A
+abbrev pub chain : {A X : Type 0} → (A → X → Answer A) → A → List X → Answer A
 chain step so_far [] = Ok so_far
 chain step so_far (x ∷ more) = step so_far x >>= (λ made. chain step made more)
 
@@ -64,7 +64,7 @@ chain step so_far (x ∷ more) = step so_far x >>= (λ made. chain step made mor
 abbrev pub one : Value
 one = v.Int (pos 1)
 
-abbrev pub multiplied : Value → Meaning → Outcome Value
+abbrev pub multiplied : Value → Meaning → Answer Value
 multiplied so_far factor = factor.value >>= times so_far
 
 -- an operand of a sum: whether it is taken away, and what it means
@@ -72,25 +72,25 @@ pub record Operand : Type 0 where
   pub subtracts : Bool
   pub meaning : Meaning
 
-abbrev pub added : Value → Operand → Outcome Value
+abbrev pub added : Value → Operand → Answer Value
 added so_far operand = operand.meaning.value >>= (λ x. if operand.subtracts then minus so_far x else plus so_far x)
 
-abbrev pub conjoined : Truth → Meaning → Outcome Truth
+abbrev pub conjoined : Truth → Meaning → Answer Truth
 conjoined so_far operand = operand.truth >>= (λ t. Ok (and3 so_far t))
 
-abbrev pub disjoined : Truth → Meaning → Outcome Truth
+abbrev pub disjoined : Truth → Meaning → Answer Truth
 disjoined so_far operand = operand.truth >>= (λ t. Ok (or3 so_far t))
 
 -- a value more
-abbrev pub listed : List Value → Meaning → Outcome (List Value)
+abbrev pub listed : List Value → Meaning → Answer (List Value)
 listed so_far part = part.value >>= (λ x. Ok (so_far ++ x ∷ []))
 
 -- ---- the rules
 
 abbrev pub Form : Type 0
-Form = BoundExpr-F Meaning (Outcome (Key × VersionRow)) (Outcome Value) Operand
+Form = BoundExpr-F Meaning (Answer (Key × VersionRow)) (Answer Value) Operand
 
-abbrev pub value_rule : Scene → Form → Outcome Value
+abbrev pub value_rule : Scene → Form → Answer Value
 value_rule s e.Null = Ok v.Null
 value_rule s (e.Number n) = Ok (v.Int n)
 value_rule s (e.Text t) = Ok (v.Text t)
@@ -114,7 +114,7 @@ value_rule s (e.Not a) = Ok v.Null
 value_rule s (e.And operands) = Ok v.Null
 value_rule s (e.Or operands) = Ok v.Null
 
-abbrev pub truth_rule : Form → Outcome Truth
+abbrev pub truth_rule : Form → Answer Truth
 truth_rule (e.Compare operator a b) = of_two (compare operator) a b
 truth_rule (e.IsNull a) = of_one (λ x. Some (is_null x)) a
 truth_rule (e.IsNotNull a) = of_one (λ x. Some (not (is_null x))) a
@@ -133,46 +133,53 @@ operand_rule term = record { subtracts = term.subtracts; meaning = term.value }
 abbrev pub key_of : List Value → Key
 key_of values = record { 0 = values }
 
-abbrev pub keyed : List Meaning → Outcome Key
+abbrev pub keyed : List Meaning → Answer Key
 keyed parts = chain listed [] parts >>= (λ values. Ok (key_of values))
 
-abbrev pub row_version_rule : {A B C : Type 0} → Scene → BoundRowVersion-F Meaning A B C → Outcome (Key × VersionRow)
+abbrev pub row_version_rule : {A B C : Type 0} → Scene → BoundRowVersion-F Meaning A B C → Answer (Key × VersionRow)
 row_version_rule s version = keyed version.values >>= (λ key. Ok (key, s.versions version.table key))
 
-abbrev pub scalar_rule : {A B C : Type 0} → BoundScalar-F A (Outcome (Key × VersionRow)) B C → Outcome Value
+abbrev pub scalar_rule : {A B C : Type 0} → BoundScalar-F A (Answer (Key × VersionRow)) B C → Answer Value
 scalar_rule scalar = scalar.version >>= (λ found. Ok (version_column scalar.column found.0 found.1))
 
 abbrev pub meaning : Scene → BoundExpr → Meaning
-meaning s = fold-BoundExpr Meaning (Outcome (Key × VersionRow)) (Outcome Value) Operand (meaning_rule s) (row_version_rule s) scalar_rule operand_rule
+meaning s = fold-BoundExpr Meaning (Answer (Key × VersionRow)) (Answer Value) Operand (meaning_rule s) (row_version_rule s) scalar_rule operand_rule
 
-abbrev pub row_version : Scene → BoundRowVersion → Outcome (Key × VersionRow)
-row_version s = fold-BoundRowVersion Meaning (Outcome (Key × VersionRow)) (Outcome Value) Operand (meaning_rule s) (row_version_rule s) scalar_rule operand_rule
+abbrev pub row_version : Scene → BoundRowVersion → Answer (Key × VersionRow)
+row_version s = fold-BoundRowVersion Meaning (Answer (Key × VersionRow)) (Answer Value) Operand (meaning_rule s) (row_version_rule s) scalar_rule operand_rule
 
-abbrev pub scalar : Scene → BoundScalar → Outcome Value
-scalar s = fold-BoundScalar Meaning (Outcome (Key × VersionRow)) (Outcome Value) Operand (meaning_rule s) (row_version_rule s) scalar_rule operand_rule
+abbrev pub scalar : Scene → BoundScalar → Answer Value
+scalar s = fold-BoundScalar Meaning (Answer (Key × VersionRow)) (Answer Value) Operand (meaning_rule s) (row_version_rule s) scalar_rule operand_rule
 
 abbrev pub operand : Scene → BoundTerm → Operand
-operand s = fold-BoundTerm Meaning (Outcome (Key × VersionRow)) (Outcome Value) Operand (meaning_rule s) (row_version_rule s) scalar_rule operand_rule
+operand s = fold-BoundTerm Meaning (Answer (Key × VersionRow)) (Answer Value) Operand (meaning_rule s) (row_version_rule s) scalar_rule operand_rule
 
 -- chains of whole expressions
-abbrev pub product : Scene → List BoundExpr → Outcome Value
+abbrev pub product : Scene → List BoundExpr → Answer Value
 product s factors = chain multiplied one (map (meaning s) factors)
 
-abbrev pub sum : Scene → Value → List BoundTerm → Outcome Value
+abbrev pub sum : Scene → Value → List BoundTerm → Answer Value
 sum s first more = chain added first (map (operand s) more)
 
-abbrev pub conjunction : Scene → List BoundExpr → Outcome Truth
+abbrev pub conjunction : Scene → List BoundExpr → Answer Truth
 conjunction s operands = chain conjoined (Some true) (map (meaning s) operands)
 
-abbrev pub disjunction : Scene → List BoundExpr → Outcome Truth
+abbrev pub disjunction : Scene → List BoundExpr → Answer Truth
 disjunction s operands = chain disjoined (Some false) (map (meaning s) operands)
 
-abbrev pub key : Scene → List BoundExpr → Outcome Key
+abbrev pub key : Scene → List BoundExpr → Answer Key
 key s parts = keyed (map (meaning s) parts)
 
 -- the value of an expression on a row, and the truth of a condition
-abbrev pub value : Scene → BoundExpr → Outcome Value
+abbrev pub value : Scene → BoundExpr → Answer Value
 value s expr = (meaning s expr).value
 
-abbrev pub truth : Scene → BoundExpr → Outcome Truth
+abbrev pub truth : Scene → BoundExpr → Answer Truth
 truth s expr = (meaning s expr).truth
+
+-- ---- ON and WHERE
+
+-- whether a condition is true on a row; one that is not written is true
+abbrev pub holds : World → Option BoundExpr → Row → Answer Bool
+holds world None row = Ok true
+holds world (Some condition) row = truth (on world row) condition >>= (λ t. Ok (is_true t))

@@ -9,7 +9,7 @@ use Rattle.ct_types.specs.declared.value.Value.{Value}
 use Rattle.ct_types.specs.declared.value.Value.TheVariants.{Null, Int, Text, Bytes}
 use Rattle.ct_types.specs.declared.refusal.Refusal.TheVariants.{Overflow}
 use Rattle.ct_types.specs.Order.{value_cmp}
-use Rattle.ct_expr.specs.Outcomes.{Outcome}
+use Rattle.ct_types.specs.Answers.{Answer}
 use Rattle.ct_expr.specs.Logic.{Truth}
 
 -- from -2^63 to 2^63 - 1; `negsuc n` is -(n + 1)
@@ -17,29 +17,29 @@ abbrev pub fits_64 : ℤ → Bool
 fits_64 (pos n) = nat_lt n (2 ^ 63)
 fits_64 (negsuc n) = nat_lt n (2 ^ 63)
 
-abbrev pub number : ℤ → Outcome Value
+abbrev pub number : ℤ → Answer Value
 number n = if fits_64 n then Ok (Int n) else Err Overflow
 
 -- a number, if there is one that fits
-abbrev pub checked : Option ℤ → Outcome Value
+abbrev pub checked : Option ℤ → Answer Value
 checked None = Err Overflow
 checked (Some n) = Ok (Int n)
 
 -- Two numbers give one. All else gives NULL: one of the two is NULL in each expression that is well formed.
-abbrev pub on_numbers : (ℤ → ℤ → ℤ) → Value → Value → Outcome Value
+abbrev pub on_numbers : (ℤ → ℤ → ℤ) → Value → Value → Answer Value
 on_numbers f (Int a) (Int b) = number (f a b)
 on_numbers f a b = Ok Null
 
-abbrev pub plus : Value → Value → Outcome Value
+abbrev pub plus : Value → Value → Answer Value
 plus = on_numbers (λ a b. a +ℤ b)
 
-abbrev pub minus : Value → Value → Outcome Value
+abbrev pub minus : Value → Value → Answer Value
 minus = on_numbers (λ a b. a -ℤ b)
 
-abbrev pub times : Value → Value → Outcome Value
+abbrev pub times : Value → Value → Answer Value
 times = on_numbers (λ a b. a *ℤ b)
 
-abbrev pub negative : Value → Outcome Value
+abbrev pub negative : Value → Answer Value
 negative (Int a) = number (pos 0 -ℤ a)
 negative v = Ok Null
 

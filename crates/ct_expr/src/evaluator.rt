@@ -1,7 +1,7 @@
 ghost use Rattle.std.specs.Prelude.{◌≡◌};
 ghost use Rattle.ct_expr.specs.Meaning as spec;
 ghost use Rattle.ct_expr.specs.Meaning.{scene};
-ghost use Rattle.ct_expr.specs.Outcomes.{Gives};
+ghost use Rattle.ct_types.specs.Answers.{Gives};
 
 use crate::functions::{
     column_property, counted_or_null, if_null, is_column_in_mask, min_valid_version, object_id,
@@ -58,6 +58,23 @@ pub fn truth<L: Versions>(
         versions,
     }
     .truth(expr)
+}
+
+/// Whether a condition, as ON's or WHERE's, is true on a row, which unknown is not. A condition that is not written is true.
+/// The errors are those of `eval`.
+pub fn holds<L: Versions>(
+    alloc: Global,
+    condition: &Option<BoundExpr>,
+    row: &Row,
+    env: &Env,
+    versions: &L,
+) -> Result<bool, Refusal>
+    ensures { Gives (spec.holds (record { env = env.now; versions = L.row_of versions.now }) condition.now row.now) result }
+{
+    match condition {
+        None => Ok(true),
+        Some(condition) => Ok(truth(alloc, condition, row, env, versions)? == Some(true)),
+    }
 }
 
 /// On what an expression is evaluated.

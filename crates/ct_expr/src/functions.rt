@@ -40,8 +40,8 @@ pub(crate) fn with(mut values: List<Value>, value: Value) -> Result<List<Value>,
     Ok(values)
 }
 
-/// A number as a value.
-fn counted(n: u64) -> Value
+/// A number that is counted, as a value. One of 2^63 or more, which no version and no id is, has none, so it is NULL.
+pub fn counted(n: u64) -> Value
     ensures { result ≡ spec.counted n }
 {
     if n < 9_223_372_036_854_775_808 {
@@ -51,7 +51,8 @@ fn counted(n: u64) -> Value
     }
 }
 
-pub(crate) fn counted_or_null(n: Option<u64>) -> Value
+/// The same where there may be none, which is NULL.
+pub fn counted_or_null(n: Option<u64>) -> Value
     ensures { result ≡ spec.counted_or_null n }
 {
     match n {
@@ -185,7 +186,8 @@ pub(crate) fn is_column_in_mask(column: &Value, mask: &Value) -> Value
     }
 }
 
-fn bytes_or_null(bytes: Option<Bin>) -> Value
+/// Bytes as a value; NULL where there are none.
+pub fn bytes_or_null(bytes: Option<Bin>) -> Value
     ensures { result ≡ spec.bytes_or_null bytes }
 {
     match bytes {

@@ -11,5 +11,6 @@ mod numbers;
 mod tests;
 
 pub use env::{Env, Versions};
-pub use evaluator::{eval, truth};
+pub use evaluator::{eval, holds, truth};
+pub use functions::{bytes_or_null, counted, counted_or_null};
 pub use laws::{de_morgan, double_negation, mirror};

@@ -1,7 +1,7 @@
 -- One step of a walk over a list, onto what is made already.
 use Rattle.std.proofs.Common.{◌≡◌, List, [], ◌∷◌, ◌++◌, Ok, Err, refl, sym, ap, ◌∙◌, append_assoc}
 use Rattle.ct_types.specs.declared.refusal.Refusal.{Refusal}
-use Rattle.ct_names.specs.Answers.{Answer, ◌>>=◌, each, each_after, onto}
+use Rattle.ct_types.specs.Answers.{Answer, ◌>>=◌, each, each_after, onto}
 
 pub onto_one : {B : Type 0} (made : List B) (b : B) (rest : Answer (List B)) → onto made (rest >>= (λ more. Ok (b ∷ more))) ≡ onto (made ++ b ∷ []) rest
 onto_one made b (Ok more) = ap (λ all. Ok all) (sym (append_assoc made (b ∷ []) more))

@@ -9,7 +9,7 @@ use Rattle.ct_types.specs.declared.schema.ColType.{ColType}
 use Rattle.ct_types.specs.declared.refusal.Refusal.TheVariants.{NoObject, NotTracked, NoVariable}
 use Rattle.ct_names.specs.declared.catalogue.SystemTable.{SystemTable}
 use Rattle.ct_names.specs.declared.catalogue.SystemTable.TheVariants.{Commits, Tracking}
-use Rattle.ct_names.specs.Answers.{Answer, ◌>>=◌, ◌>>◌, demand, or_refuse}
+use Rattle.ct_types.specs.Answers.{Answer, ◌>>=◌, ◌>>◌, demand, or_refuse}
 use Rattle.ct_names.specs.Names.{same, table_name}
 
 -- the table of that name

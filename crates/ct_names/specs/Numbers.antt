@@ -9,7 +9,7 @@ use Rattle.ct_types.specs.declared.stmt.TimeUnit.{TimeUnit}
 use Rattle.ct_types.specs.declared.stmt.TimeUnit.TheVariants.{Days, Hours, Minutes}
 use Rattle.ct_types.specs.declared.stmt.Retention.{Retention}
 use Rattle.ct_types.specs.declared.refusal.Refusal.TheVariants.{Overflow, BadTable, BadRetention}
-use Rattle.ct_names.specs.Answers.{Answer, ◌>>=◌, or_refuse}
+use Rattle.ct_types.specs.Answers.{Answer, ◌>>=◌, or_refuse}
 
 abbrev pub number_from : ℕ → List ℕ → ℕ
 number_from n [] = n

@@ -1,6 +1,6 @@
 ghost use Rattle.std.specs.Prelude.{◌≡◌, ◌+◌, IfOk};
 ghost use Rattle.std.specs.Option.{option_copied};
-ghost use Rattle.ct_names.specs.Answers.{Gives, Lends};
+ghost use Rattle.ct_types.specs.Answers.{Gives, Lends};
 ghost use Rattle.ct_names.specs.Catalogue as spec;
 
 use crate::names::{same_name, table_name};

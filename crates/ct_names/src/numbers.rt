@@ -1,5 +1,5 @@
 ghost use Rattle.std.specs.Prelude.{◌≡◌, ◌<◌, ◌≤◌, ◌^◌, ◌-◌, min, IfSome};
-ghost use Rattle.ct_names.specs.Answers.{Gives};
+ghost use Rattle.ct_types.specs.Answers.{Gives};
 ghost use Rattle.ct_names.specs.Numbers as spec;
 
 use ct_types::{ColType, Refusal, Retention, Text, TimeUnit, TypeName};

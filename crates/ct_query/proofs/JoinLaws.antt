@@ -6,8 +6,8 @@ use Rattle.std.proofs.lemmas.List.Sorted.{IsPermutation-refl, IsPermutation-cons
 use Rattle.std.specs.List.{AllByRecursion, filter, flat_map}
 use Rattle.std.specs.List.Sorted.{IsPermutation}
 use Rattle.ct_types.specs.declared.value.Row.{Row}
-use Rattle.ct_expr.specs.Outcomes.{Outcome, ◌>>=◌}
-use Rattle.ct_query.specs.Answer.{holds}
+use Rattle.ct_types.specs.Answers.{Answer, ◌>>=◌}
+use Rattle.ct_expr.specs.Meaning.{holds}
 use Rattle.ct_query.specs.Joins.{Joined, pair, left_only, right_only, with_right, with_left, or_else, is_pair, turned}
 use Rattle.ct_query.specs.Laws.{InnerIsLeftPaired, RightMirrorsLeft, SamePairs, TrueKeepsAll}
 use Rattle.ct_query.specs.Lists.{all_of, only}
@@ -15,7 +15,7 @@ use Rattle.ct_query.proofs.Through.{all_of-through, only-through}
 
 -- ---- INNER and LEFT
 
-paired_at : (one : Joined) (o : Outcome Bool) (m : Outcome (List Joined)) → is_pair one ≡ true → m ≡ (m >>= (λ a. Ok (filter is_pair a)))
+paired_at : (one : Joined) (o : Answer Bool) (m : Answer (List Joined)) → is_pair one ≡ true → m ≡ (m >>= (λ a. Ok (filter is_pair a)))
     → (o >>= (λ b. m >>= (λ rest. Ok (cond b (one ∷ rest) rest)))) ≡ ((o >>= (λ b. m >>= (λ rest. Ok (cond b (one ∷ rest) rest)))) >>= (λ a. Ok (filter is_pair a)))
 paired_at one (Err r) m is e = refl
 paired_at one (Ok b) (Err r) is e = refl
@@ -23,23 +23,23 @@ paired_at one (Ok false) (Ok a) is e = e
 paired_at one (Ok true) (Ok a) is e = let same : a ≡ filter is_pair a = cc in rw (is, ← same)
 
 -- what is found are pairs
-found_pairs : (on : Joined → Outcome Bool) (f : Row → Joined) → ((row : Row) → is_pair (f row) ≡ true) → (rows : List Row)
+found_pairs : (on : Joined → Answer Bool) (f : Row → Joined) → ((row : Row) → is_pair (f row) ≡ true) → (rows : List Row)
     → only on (map f rows) ≡ (only on (map f rows) >>= (λ a. Ok (filter is_pair a)))
 found_pairs on f is [] = refl
 found_pairs on f is (row ∷ rows) = paired_at (f row) (on (f row)) (only on (map f rows)) (is row) (found_pairs on f is rows)
 
-or_else-pairs : (other : Joined) (o : Outcome (List Joined)) → is_pair other ≡ false → o ≡ (o >>= (λ a. Ok (filter is_pair a)))
+or_else-pairs : (other : Joined) (o : Answer (List Joined)) → is_pair other ≡ false → o ≡ (o >>= (λ a. Ok (filter is_pair a)))
     → o ≡ ((o >>= (λ found. Ok (or_else other found))) >>= (λ a. Ok (filter is_pair a)))
 or_else-pairs other (Err r) is e = refl
 or_else-pairs other (Ok []) is e = rw is
 or_else-pairs other (Ok (a ∷ more)) is e = e
 
 -- what pairs there are, of a left row
-pairs_right : (on : Joined → Outcome Bool) (rights : List Row) (left : Row)
+pairs_right : (on : Joined → Answer Bool) (rights : List Row) (left : Row)
     → with_right on rights left ≡ ((with_right on rights left >>= (λ found. Ok (or_else (left_only left) found))) >>= (λ a. Ok (filter is_pair a)))
 pairs_right on rights left = or_else-pairs (left_only left) (with_right on rights left) refl (found_pairs on (pair left) (λ row. refl) rights)
 
-pairs_left : (on : Joined → Outcome Bool) (lefts : List Row) (right : Row)
+pairs_left : (on : Joined → Answer Bool) (lefts : List Row) (right : Row)
     → with_left on lefts right ≡ ((with_left on lefts right >>= (λ found. Ok (or_else (right_only right) found))) >>= (λ a. Ok (filter is_pair a)))
 pairs_left on lefts right = or_else-pairs (right_only right) (with_left on lefts right) refl (found_pairs on (λ left. pair left right) (λ row. refl) lefts)
 
@@ -49,7 +49,7 @@ inner_is_left_paired columns on lefts rights =
 
 -- ---- RIGHT and LEFT
 
-or_else-turned : (right : Row) (o p : Outcome (List Joined)) → p ≡ (o >>= (λ a. Ok (map turned a)))
+or_else-turned : (right : Row) (o p : Answer (List Joined)) → p ≡ (o >>= (λ a. Ok (map turned a)))
     → (p >>= (λ found. Ok (or_else (right_only right) found))) ≡ ((o >>= (λ found. Ok (or_else (left_only right) found))) >>= (λ a. Ok (map turned a)))
 or_else-turned right (Err r) p e = rw e
 or_else-turned right (Ok []) p e = rw e
@@ -64,28 +64,28 @@ right_mirrors_left columns on lefts rights =
 
 -- ---- the pairs of both
 
-abbrev passes : Outcome Bool → Bool
+abbrev passes : Answer Bool → Bool
 passes (Ok b) = b
 passes (Err r) = false
 
-kept_at : (one : Joined) (o : Outcome Bool) (m : Outcome (List Joined)) (found rest : List Joined) → ((some : List Joined) → m ≡ Ok some → some ≡ rest)
+kept_at : (one : Joined) (o : Answer Bool) (m : Answer (List Joined)) (found rest : List Joined) → ((some : List Joined) → m ≡ Ok some → some ≡ rest)
     → (o >>= (λ b. m >>= (λ more. Ok (cond b (one ∷ more) more)))) ≡ Ok found → found ≡ cond (passes o) (one ∷ rest) rest
 kept_at one (Err r) m found rest more e = cc
 kept_at one (Ok b) (Err r) found rest more e = cc
 kept_at one (Ok true) (Ok a) found rest more e = let same : a ≡ rest = more a refl in cc
 kept_at one (Ok false) (Ok a) found rest more e = let same : a ≡ rest = more a refl in cc
 
-only-filter : (on : Joined → Outcome Bool) (ones found : List Joined) → only on ones ≡ Ok found → found ≡ filter (λ one. passes (on one)) ones
+only-filter : (on : Joined → Answer Bool) (ones found : List Joined) → only on ones ≡ Ok found → found ≡ filter (λ one. passes (on one)) ones
 only-filter on [] found e = cc
 only-filter on (one ∷ ones) found e = kept_at one (on one) (only on ones) found (filter (λ one. passes (on one)) ones) (only-filter on ones) e
 
-joined_at : (o m : Outcome (List Joined)) (found first rest : List Joined) → ((some : List Joined) → o ≡ Ok some → some ≡ first) → ((some : List Joined) → m ≡ Ok some → some ≡ rest)
+joined_at : (o m : Answer (List Joined)) (found first rest : List Joined) → ((some : List Joined) → o ≡ Ok some → some ≡ first) → ((some : List Joined) → m ≡ Ok some → some ≡ rest)
     → (o >>= (λ some. m >>= (λ more. Ok (some ++ more)))) ≡ Ok found → found ≡ first ++ rest
 joined_at (Err r) m found first rest here more e = cc
 joined_at (Ok a) (Err r) found first rest here more e = cc
 joined_at (Ok a) (Ok b) found first rest here more e = let p : a ≡ first = here a refl in let q : b ≡ rest = more b refl in cc
 
-all_of-flat_map : (f : Row → Outcome (List Joined)) (h : Row → List Joined) → ((row : Row) (some : List Joined) → f row ≡ Ok some → some ≡ h row)
+all_of-flat_map : (f : Row → Answer (List Joined)) (h : Row → List Joined) → ((row : Row) (some : List Joined) → f row ≡ Ok some → some ≡ h row)
     → (rows : List Row) (found : List Joined) → all_of f rows ≡ Ok found → found ≡ flat_map h rows
 all_of-flat_map f h here [] found e = cc
 all_of-flat_map f h here (row ∷ rows) found e = joined_at (f row) (all_of f rows) found (h row) (flat_map h rows) (here row) (all_of-flat_map f h here rows) e
@@ -139,7 +139,7 @@ same_pairs columns on lefts rights lefted righted is_left is_right =
 
 -- ---- WHERE
 
-only-all : {A : Type 0} (test : A → Outcome Bool) (ones : List A) → AllByRecursion (λ one. test one ≡ Ok true) ones → only test ones ≡ Ok ones
+only-all : {A : Type 0} (test : A → Answer Bool) (ones : List A) → AllByRecursion (λ one. test one ≡ Ok true) ones → only test ones ≡ Ok ones
 only-all test [] all = refl
 only-all test (one ∷ ones) all = rw (all.0, only-all test ones all.1)
 

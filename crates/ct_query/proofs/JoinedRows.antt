@@ -6,16 +6,16 @@ use Rattle.ct_types.specs.declared.bound.Join.TheVariants.{One, Inner, Left, Rig
 use Rattle.ct_types.specs.declared.bound.Plan.{Plan}
 use Rattle.ct_types.specs.declared.refusal.Refusal.{Refusal}
 use Rattle.ct_types.specs.declared.value.Row.{Row}
-use Rattle.ct_expr.specs.Outcomes.{Outcome, ◌>>=◌}
-use Rattle.ct_expr.specs.Meaning.{World}
-use Rattle.ct_query.specs.Answer.{holds, joined_rows, answer_over, answer}
+use Rattle.ct_types.specs.Answers.{Answer, ◌>>=◌}
+use Rattle.ct_expr.specs.Meaning.{World, holds}
+use Rattle.ct_query.specs.Answer.{joined_rows, answer_over, answer}
 use Rattle.ct_query.specs.Joins.{Joined, alone, pair, left_only, right_only, row_of, only_source, with_right, with_left, or_else, side_by_side}
 use Rattle.ct_query.specs.Lists.{all_of}
 use Rattle.ct_query.specs.Steps.{row_in, pairs_of_left, pairs_of_right, rows_of_left, rows_of_right}
 use Rattle.ct_query.proofs.Through.{all_of-through, only-through, or_else-through}
 
 -- ON, on a joined row
-abbrev on_joined : World → Plan → Joined → Outcome Bool
+abbrev on_joined : World → Plan → Joined → Answer Bool
 on_joined world plan one = holds world plan.on (row_in plan one)
 
 pairs_of_left-is : (world : World) (plan : Plan) (rights : List Row) (left : Row)

@@ -5,7 +5,7 @@ use Rattle.ct_types.specs.declared.bound.Join.{Join}
 use Rattle.ct_types.specs.declared.bound.Join.TheVariants.{One, Inner, Left, Right, Apply}
 use Rattle.ct_types.specs.declared.value.Row.{Row}
 use Rattle.ct_types.specs.declared.value.Value.TheVariants.{Null}
-use Rattle.ct_expr.specs.Outcomes.{Outcome, ◌>>=◌}
+use Rattle.ct_types.specs.Answers.{Answer, ◌>>=◌}
 use Rattle.ct_query.specs.Lists.{all_of, only}
 
 -- a joined row: a row of the only source, a left and a right row, or a row that stands without a pair
@@ -32,10 +32,10 @@ only_source zero rows = record { 0 = [] } ∷ []
 only_source (suc n) rows = rows
 
 -- the pairs of a row with the other side's rows, those for which ON is true
-abbrev pub with_right : (Joined → Outcome Bool) → List Row → Row → Outcome (List Joined)
+abbrev pub with_right : (Joined → Answer Bool) → List Row → Row → Answer (List Joined)
 with_right on rights left = only on (map (pair left) rights)
 
-abbrev pub with_left : (Joined → Outcome Bool) → List Row → Row → Outcome (List Joined)
+abbrev pub with_left : (Joined → Answer Bool) → List Row → Row → Answer (List Joined)
 with_left on lefts right = only on (map (λ left. pair left right) lefts)
 
 -- what was found, or one that stands for it
@@ -48,7 +48,7 @@ abbrev pub side_by_side : List Row → List Row → List Joined
 side_by_side (left ∷ lefts) (right ∷ rights) = pair left right ∷ side_by_side lefts rights
 side_by_side lefts rights = []
 
-abbrev pub joined : Join → ℕ → (Joined → Outcome Bool) → List Row → List Row → Outcome (List Joined)
+abbrev pub joined : Join → ℕ → (Joined → Answer Bool) → List Row → List Row → Answer (List Joined)
 joined One left_columns on lefts rights = Ok (map alone (only_source left_columns lefts))
 joined Inner left_columns on lefts rights = all_of (with_right on rights) lefts
 joined Left left_columns on lefts rights = all_of (λ left. with_right on rights left >>= (λ found. Ok (or_else (left_only left) found))) lefts

@@ -6,10 +6,10 @@ use Rattle.ct_types.specs.declared.bound.BoundExpr.{BoundExpr}
 use Rattle.ct_types.specs.declared.bound.Join.TheVariants.{Inner, Left, Right}
 use Rattle.ct_types.specs.declared.bound.OrderBy.{OrderBy}
 use Rattle.ct_types.specs.declared.value.Row.{Row}
-use Rattle.ct_expr.specs.Outcomes.{Outcome, ◌>>=◌}
+use Rattle.ct_types.specs.Answers.{Answer, ◌>>=◌}
 use Rattle.ct_query.specs.declared.shown.Shown.{Shown}
-use Rattle.ct_expr.specs.Meaning.{World}
-use Rattle.ct_query.specs.Answer.{holds, comes_before}
+use Rattle.ct_expr.specs.Meaning.{World, holds}
+use Rattle.ct_query.specs.Answer.{comes_before}
 use Rattle.ct_query.specs.Joins.{Joined, joined, is_pair, turned}
 use Rattle.ct_query.specs.Lists.{only}
 use Rattle.ct_query.specs.Sorting.{in_order}
@@ -17,19 +17,19 @@ use Rattle.ct_query.specs.Sorting.{in_order}
 -- an INNER JOIN is a LEFT JOIN without the rows that stand with NULLs
 abbrev pub InnerIsLeftPaired : Type 0
 InnerIsLeftPaired =
-    (columns : ℕ) (on : Joined → Outcome Bool) (lefts rights : List Row)
+    (columns : ℕ) (on : Joined → Answer Bool) (lefts rights : List Row)
     → joined Inner columns on lefts rights ≡ (joined Left columns on lefts rights >>= (λ made. Ok (filter is_pair made)))
 
 -- a RIGHT JOIN is a LEFT JOIN of the sources exchanged, with each row turned round
 abbrev pub RightMirrorsLeft : Type 0
 RightMirrorsLeft =
-    (columns : ℕ) (on : Joined → Outcome Bool) (lefts rights : List Row)
+    (columns : ℕ) (on : Joined → Answer Bool) (lefts rights : List Row)
     → joined Right columns on lefts rights ≡ (joined Left columns (λ one. on (turned one)) rights lefts >>= (λ made. Ok (map turned made)))
 
 -- LEFT JOIN and RIGHT JOIN have the same pairs, in another order
 abbrev pub SamePairs : Type 0
 SamePairs =
-    (columns : ℕ) (on : Joined → Outcome Bool) (lefts rights : List Row) (by_left by_right : List Joined)
+    (columns : ℕ) (on : Joined → Answer Bool) (lefts rights : List Row) (by_left by_right : List Joined)
     → joined Left columns on lefts rights ≡ Ok by_left
     → joined Right columns on lefts rights ≡ Ok by_right
     → IsPermutation (filter is_pair by_left) (filter is_pair by_right)

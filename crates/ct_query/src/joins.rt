@@ -1,14 +1,13 @@
 ghost use Rattle.std.specs.Prelude.{◌≡◌, ◌++◌, IfOk, OnOk, map, replicate};
 ghost use Rattle.ct_types.specs.declared.value.Value.TheVariants.{Null as null};
-ghost use Rattle.ct_expr.specs.Outcomes.{Gives};
+ghost use Rattle.ct_types.specs.Answers.{Gives};
 ghost use Rattle.ct_query.specs.Joins.{pair as a_pair, left_only as a_left, right_only as a_right, row_of, side_by_side};
 ghost use Rattle.ct_query.specs.Lists.{all_of};
 ghost use Rattle.ct_query.specs.Steps as spec;
 
-use crate::conditions::holds;
-use crate::lists::{append, push};
-use ct_expr::{Env, Versions};
-use ct_types::{Copies, List, Memory, Plan, Refusal, Row, Value};
+use crate::lists::append;
+use ct_expr::{Env, Versions, holds};
+use ct_types::{Copies, List, Memory, Plan, Refusal, Row, Value, push};
 use std::alloc::Global;
 
 fn push_copies(alloc: Global, values: &mut List<Value>, more: &[Value]) -> Result<(), Memory>

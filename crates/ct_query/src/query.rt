@@ -1,17 +1,17 @@
 ghost use Rattle.std.specs.Prelude.{◌≡◌, IfOk, map};
-ghost use Rattle.ct_expr.specs.Outcomes.{Gives};
+ghost use Rattle.ct_types.specs.Answers.{Gives, each};
 ghost use Rattle.ct_query.specs.Answer as spec;
 ghost use Rattle.ct_query.specs.Joins.{only_source};
-ghost use Rattle.ct_query.specs.Lists.{each};
 ghost use Rattle.ct_query.specs.Steps.{lent};
 
 use crate::conditions::kept;
 use crate::joins::{applied, inner, left_outer, pair, right_outer};
-use crate::lists::push;
 use crate::shown::Shown;
 use crate::sorting::sorted;
 use ct_expr::{Env, Versions, eval};
-use ct_types::{BoundExpr, Copies, Grid, Join, List, Memory, OrderBy, Plan, Refusal, Row, Value};
+use ct_types::{
+    BoundExpr, Copies, Grid, Join, List, Memory, OrderBy, Plan, Refusal, Row, Value, push,
+};
 use std::alloc::Global;
 
 fn values<L: Versions>(

@@ -31,7 +31,7 @@ pub use column_fit::{Misfit, fits, is_of_kind};
 pub use copies::Copies;
 pub use entry::{Act, Change, Entry, Keep, Kept, Min, Op, Write};
 pub use expr::{ColumnName, Comparison, Expr, ObjectName, RowVersion, Scalar, Term};
-pub use list::List;
+pub use list::{List, push};
 pub use memory::Memory;
 pub use order::{cmp_key, cmp_value};
 pub use piece::Piece;

@@ -67,6 +67,14 @@ impl<T> List<T> {
     }
 }
 
+/// Adds an item at the end of a list. Want of memory drops the item.
+pub fn push<T: Drop>(list: &mut List<T>, item: T) -> Result<(), Memory>
+    ensures { OnOk result (list.new ≡ list.old ++ item ∷ []) }
+{
+    list.push(item)?;
+    Ok(())
+}
+
 impl<T: Copies + Drop> Copies for List<T> {
     fn copy(&self, alloc: Global) -> Result<List<T>, Memory> {
         let mut made = List::new(alloc);

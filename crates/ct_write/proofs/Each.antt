@@ -6,10 +6,10 @@ use Rattle.ct_types.specs.declared.bound.BoundExpr.{BoundExpr}
 use Rattle.ct_types.specs.declared.value.Row.{Row}
 use Rattle.ct_types.specs.declared.refusal.Refusal.{Refusal}
 use Rattle.ct_model.proofs.Members.{all_append}
-use Rattle.ct_expr.specs.Outcomes.{Outcome, ◌>>=◌, Gives}
-use Rattle.ct_write.specs.Steps.{each, in_turn}
-use Rattle.ct_expr.specs.Meaning.{World}
-use Rattle.ct_write.specs.Rows.{is_target, targets}
+use Rattle.ct_types.specs.Answers.{Answer, ◌>>=◌, Gives, each}
+use Rattle.ct_write.specs.Steps.{in_turn}
+use Rattle.ct_expr.specs.Meaning.{World, holds}
+use Rattle.ct_write.specs.Rows.{targets}
 
 -- a list up to a member, the member, and the rest
 split_at : {A : Type 0} (xs : List A) (i : ℕ) (x : A) → i < length xs → x ≡ get_or xs i x → take i xs ++ x ∷ drop (i + 1) xs ≡ xs
@@ -20,28 +20,28 @@ front_more xs i x lt is = take_more xs i x lt ∙ ap (λ y. take i xs ++ y ∷ [
 
 -- ---- what each member comes to
 
-join_each : {B : Type 0} (r : Outcome B) (p q w : Outcome (List B)) → w ≡ (p >>= (λ made. q >>= (λ bs. Ok (made ++ bs))))
+join_each : {B : Type 0} (r : Answer B) (p q w : Answer (List B)) → w ≡ (p >>= (λ made. q >>= (λ bs. Ok (made ++ bs))))
     → (r >>= (λ a. w >>= (λ cs. Ok (a ∷ cs)))) ≡ ((r >>= (λ a. p >>= (λ made. Ok (a ∷ made)))) >>= (λ made. q >>= (λ bs. Ok (made ++ bs))))
 join_each (Err e) p q w h = refl
 join_each (Ok a) (Err e) q w h = rw h refl
 join_each (Ok a) (Ok ys) (Err e) w h = rw h refl
 join_each (Ok a) (Ok ys) (Ok bs) w h = rw h refl
 
-unit_each : {B : Type 0} (r : Outcome (List B)) → r ≡ (r >>= (λ bs. Ok ([] ++ bs)))
+unit_each : {B : Type 0} (r : Answer (List B)) → r ≡ (r >>= (λ bs. Ok ([] ++ bs)))
 unit_each (Ok bs) = refl
 unit_each (Err e) = refl
 
-each_append : {A B : Type 0} (f : A → Outcome B) (xs ys : List A) → each f (xs ++ ys) ≡ (each f xs >>= (λ made. each f ys >>= (λ bs. Ok (made ++ bs))))
+each_append : {A B : Type 0} (f : A → Answer B) (xs ys : List A) → each f (xs ++ ys) ≡ (each f xs >>= (λ made. each f ys >>= (λ bs. Ok (made ++ bs))))
 each_append f [] ys = unit_each (each f ys)
 each_append f (x ∷ xs) ys = join_each (f x) (each f xs) (each f ys) (each f (xs ++ ys)) (each_append f xs ys)
 
 -- one member more
-pub each_more : {A B : Type 0} (f : A → Outcome B) (xs : List A) (i : ℕ) (x : A) (ys : List B) (y : B)
+pub each_more : {A B : Type 0} (f : A → Answer B) (xs : List A) (i : ℕ) (x : A) (ys : List B) (y : B)
     → i < length xs → x ≡ get_or xs i x → each f (take i xs) ≡ Ok ys → f x ≡ Ok y → each f (take (i + 1) xs) ≡ Ok (ys ++ y ∷ [])
 each_more f xs i x ys y lt is front here = rw (front_more xs i x lt is) (rw (each_append f (take i xs) (x ∷ [])) (rw (front, here) refl))
 
 -- a member that is refused
-pub each_stops : {A B : Type 0} (f : A → Outcome B) (xs : List A) (i : ℕ) (x : A) (ys : List B) (e : Refusal)
+pub each_stops : {A B : Type 0} (f : A → Answer B) (xs : List A) (i : ℕ) (x : A) (ys : List B) (e : Refusal)
     → i < length xs → x ≡ get_or xs i x → each f (take i xs) ≡ Ok ys → Gives (f x) (Err e) → Gives (each f xs) (Err e)
 each_stops f xs i x ys e lt is front here other =
     let stops : each f (take i xs ++ x ∷ drop (i + 1) xs) ≡ Err e = rw (each_append f (take i xs) (x ∷ drop (i + 1) xs)) (rw (front, here other) refl) in
@@ -49,19 +49,19 @@ each_stops f xs i x ys e lt is front here other =
 
 -- ---- whether each member passes
 
-join_turns : (r p q w : Outcome (Unit {0})) → w ≡ (p >>= (λ passed. q)) → (r >>= (λ passed. w)) ≡ ((r >>= (λ passed. p)) >>= (λ passed. q))
+join_turns : (r p q w : Answer (Unit {0})) → w ≡ (p >>= (λ passed. q)) → (r >>= (λ passed. w)) ≡ ((r >>= (λ passed. p)) >>= (λ passed. q))
 join_turns (Err e) p q w h = refl
 join_turns (Ok a) p q w h = h
 
-in_turn_append : {A : Type 0} (f : A → Outcome (Unit {0})) (xs ys : List A) → in_turn f (xs ++ ys) ≡ (in_turn f xs >>= (λ passed. in_turn f ys))
+in_turn_append : {A : Type 0} (f : A → Answer (Unit {0})) (xs ys : List A) → in_turn f (xs ++ ys) ≡ (in_turn f xs >>= (λ passed. in_turn f ys))
 in_turn_append f [] ys = refl
 in_turn_append f (x ∷ xs) ys = join_turns (f x) (in_turn f xs) (in_turn f ys) (in_turn f (xs ++ ys)) (in_turn_append f xs ys)
 
-pub in_turn_more : {A : Type 0} (f : A → Outcome (Unit {0})) (xs : List A) (i : ℕ) (x : A)
+pub in_turn_more : {A : Type 0} (f : A → Answer (Unit {0})) (xs : List A) (i : ℕ) (x : A)
     → i < length xs → x ≡ get_or xs i x → in_turn f (take i xs) ≡ Ok tt → f x ≡ Ok tt → in_turn f (take (i + 1) xs) ≡ Ok tt
 in_turn_more f xs i x lt is front here = rw (front_more xs i x lt is) (rw (in_turn_append f (take i xs) (x ∷ [])) (rw (front, here) refl))
 
-pub in_turn_stops : {A : Type 0} (f : A → Outcome (Unit {0})) (xs : List A) (i : ℕ) (x : A) (e : Refusal)
+pub in_turn_stops : {A : Type 0} (f : A → Answer (Unit {0})) (xs : List A) (i : ℕ) (x : A) (e : Refusal)
     → i < length xs → x ≡ get_or xs i x → in_turn f (take i xs) ≡ Ok tt → Gives (f x) (Err e) → Gives (in_turn f xs) (Err e)
 in_turn_stops f xs i x e lt is front here other =
     let stops : in_turn f (take i xs ++ x ∷ drop (i + 1) xs) ≡ Err e = rw (in_turn_append f (take i xs) (x ∷ drop (i + 1) xs)) (rw (front, here other) refl) in
@@ -75,7 +75,7 @@ all_more P xs i x lt is front here = rw (front_more xs i x lt is) (all_append P 
 
 -- ---- the targets
 
-join_targets : (r : Outcome Bool) (row : Row) (p q w : Outcome (List Row)) → w ≡ (p >>= (λ made. q >>= (λ bs. Ok (made ++ bs))))
+join_targets : (r : Answer Bool) (row : Row) (p q w : Answer (List Row)) → w ≡ (p >>= (λ made. q >>= (λ bs. Ok (made ++ bs))))
     → (r >>= (λ takes. w >>= (λ more. Ok (if takes then row ∷ more else more))))
     ≡ ((r >>= (λ takes. p >>= (λ more. Ok (if takes then row ∷ more else more)))) >>= (λ made. q >>= (λ bs. Ok (made ++ bs))))
 join_targets (Err e) row p q w h = refl
@@ -89,22 +89,22 @@ targets_append : (w : World) (filter : Option BoundExpr) (xs ys : List Row)
     → targets w filter (xs ++ ys) ≡ (targets w filter xs >>= (λ made. targets w filter ys >>= (λ bs. Ok (made ++ bs))))
 targets_append w filter [] ys = unit_each (targets w filter ys)
 targets_append w filter (x ∷ xs) ys =
-    join_targets (is_target w filter x) x (targets w filter xs) (targets w filter ys) (targets w filter (xs ++ ys)) (targets_append w filter xs ys)
+    join_targets (holds w filter x) x (targets w filter xs) (targets w filter ys) (targets w filter (xs ++ ys)) (targets_append w filter xs ys)
 
 pub targets_more : (w : World) (filter : Option BoundExpr) (xs : List Row) (i : ℕ) (x : Row) (chosen after : List Row) (takes : Bool)
-    → i < length xs → x ≡ get_or xs i x → targets w filter (take i xs) ≡ Ok chosen → is_target w filter x ≡ Ok takes → takes ≡ true → after ≡ chosen ++ x ∷ []
+    → i < length xs → x ≡ get_or xs i x → targets w filter (take i xs) ≡ Ok chosen → holds w filter x ≡ Ok takes → takes ≡ true → after ≡ chosen ++ x ∷ []
     → targets w filter (take (i + 1) xs) ≡ Ok after
 targets_more w filter xs i x chosen after takes lt is front here told added =
     rw (front_more xs i x lt is) (rw (targets_append w filter (take i xs) (x ∷ [])) (rw (front, here, told, added) refl))
 
 pub targets_same : (w : World) (filter : Option BoundExpr) (xs : List Row) (i : ℕ) (x : Row) (chosen after : List Row) (takes : Bool)
-    → i < length xs → x ≡ get_or xs i x → targets w filter (take i xs) ≡ Ok chosen → is_target w filter x ≡ Ok takes → takes ≡ false → after ≡ chosen
+    → i < length xs → x ≡ get_or xs i x → targets w filter (take i xs) ≡ Ok chosen → holds w filter x ≡ Ok takes → takes ≡ false → after ≡ chosen
     → targets w filter (take (i + 1) xs) ≡ Ok after
 targets_same w filter xs i x chosen after takes lt is front here told same =
     rw (front_more xs i x lt is) (rw (targets_append w filter (take i xs) (x ∷ [])) (rw (front, here, told, same, append-nil chosen) refl))
 
 pub targets_stop : (w : World) (filter : Option BoundExpr) (xs : List Row) (i : ℕ) (x : Row) (chosen : List Row) (e : Refusal)
-    → i < length xs → x ≡ get_or xs i x → targets w filter (take i xs) ≡ Ok chosen → Gives (is_target w filter x) (Err e)
+    → i < length xs → x ≡ get_or xs i x → targets w filter (take i xs) ≡ Ok chosen → Gives (holds w filter x) (Err e)
     → Gives (targets w filter xs) (Err e)
 targets_stop w filter xs i x chosen e lt is front here other =
     let stops : targets w filter (take i xs ++ x ∷ drop (i + 1) xs) ≡ Err e = rw (targets_append w filter (take i xs) (x ∷ drop (i + 1) xs)) (rw (front, here other) refl) in

@@ -15,11 +15,11 @@ use Rattle.ct_types.specs.declared.value.Value.{Value}
 use Rattle.ct_model.specs.Tables.{key_of}
 use Rattle.ct_model.proofs.Members.{all_map}
 use Rattle.ct_expr.specs.Meaning.{World, on, value}
-use Rattle.ct_expr.specs.Outcomes.{Gives}
+use Rattle.ct_types.specs.Answers.{Gives, each}
 use Rattle.ct_write.specs.declared.changes.Changed.{Changed}
 use Rattle.ct_write.specs.Fitting.{fit_row, IsFit}
 use Rattle.ct_write.specs.Rows.{assigned, nulls, inserted, changes_of}
-use Rattle.ct_write.specs.Steps.{each, in_turn}
+use Rattle.ct_write.specs.Steps.{in_turn}
 use Rattle.ct_write.specs.Writes.{Context, context_of, write_of, fitted, writes_of}
 
 abbrev row_of : List Value → Row

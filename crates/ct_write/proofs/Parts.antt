@@ -12,23 +12,22 @@ use Rattle.ct_types.specs.declared.value.Value.{Value}
 use Rattle.ct_types.specs.declared.value.Value.TheVariants.{Null, Int, Text, Bytes}
 use Rattle.ct_model.specs.Lists.{EachToLater}
 use Rattle.ct_model.specs.Valid.{ContextFits}
-use Rattle.ct_expr.specs.Meaning.{World, on, value}
-use Rattle.ct_expr.specs.Outcomes.{Outcome, ◌>>=◌}
+use Rattle.ct_expr.specs.Meaning.{World, on, value, holds}
+use Rattle.ct_types.specs.Answers.{Answer, ◌>>=◌, each}
 use Rattle.ct_write.specs.declared.changes.Changed.{Changed}
-use Rattle.ct_write.specs.Rows.{no_row, is_target, targets, changes_of}
-use Rattle.ct_write.specs.Steps.{each}
+use Rattle.ct_write.specs.Rows.{no_row, targets, changes_of}
 use Rattle.ct_write.specs.Writes.{Context, fit_context, context_of, write_of, fitted, writes_of}
 
-pub record Came {A B : Type 0} (r : Outcome A) (f : A → Outcome B) (b : B) : Type 0 where
+pub record Came {A B : Type 0} (r : Answer A) (f : A → Answer B) (b : B) : Type 0 where
   pub first : A
   pub was : r ≡ Ok first
   pub next : f first ≡ Ok b
 
-pub came : {A B : Type 0} (r : Outcome A) (f : A → Outcome B) (b : B) → (r >>= f) ≡ Ok b → Came r f b
+pub came : {A B : Type 0} (r : Answer A) (f : A → Answer B) (b : B) → (r >>= f) ≡ Ok b → Came r f b
 came (Ok a) f b e = record { first = a; was = refl; next = e }
 came (Err x) f b e = cc
 
-abbrev ok : {A : Type 0} → A → Outcome A
+abbrev ok : {A : Type 0} → A → Answer A
 ok a = Ok a
 
 pub same_ok : {A : Type 0} (a b : A) → ok a ≡ ok b → a ≡ b
@@ -56,7 +55,7 @@ parts_of w table bound rows writes e =
 -- ---- members
 
 -- what each member came to has a fact where the member has one
-pub each_all : {A B : Type 0} (f : A → Outcome B) (P : A → Type 0) (Q : B → Type 0) → ((x : A) (y : B) → P x → f x ≡ Ok y → Q y)
+pub each_all : {A B : Type 0} (f : A → Answer B) (P : A → Type 0) (Q : B → Type 0) → ((x : A) (y : B) → P x → f x ≡ Ok y → Q y)
     → (xs : List A) (ys : List B) → AllByRecursion P xs → each f xs ≡ Ok ys → AllByRecursion Q ys
 each_all f P Q keeps [] ys all e = let none : [] ≡ ys = same_ok _ _ e in subst (AllByRecursion Q) none tt
 each_all f P Q keeps (x ∷ xs) ys all e =
@@ -66,7 +65,7 @@ each_all f P Q keeps (x ∷ xs) ys all e =
     subst (AllByRecursion Q) are (keeps x c.first all.0 c.was, each_all f P Q keeps xs d.first all.1 d.was)
 
 -- and so of each member and every later one
-pub each_pairs : {A B : Type 0} (f : A → Outcome B) (R : A → A → Type 0) (S : B → B → Type 0)
+pub each_pairs : {A B : Type 0} (f : A → Answer B) (R : A → A → Type 0) (S : B → B → Type 0)
     → ((x z : A) (y u : B) → R x z → f x ≡ Ok y → f z ≡ Ok u → S y u)
     → (xs : List A) (ys : List B) → EachToLater R xs → each f xs ≡ Ok ys → EachToLater S ys
 each_pairs f R S keeps [] ys all e = let none : [] ≡ ys = same_ok _ _ e in subst (EachToLater S) none tt
@@ -83,7 +82,7 @@ pub targets_all : (w : World) (filter : Option BoundExpr) (P : Row → Type 0) (
     → targets w filter rows ≡ Ok chosen → AllByRecursion P chosen
 targets_all w filter P [] chosen all e = let none : [] ≡ chosen = same_ok _ _ e in subst (AllByRecursion P) none tt
 targets_all w filter P (row ∷ rows) chosen all e =
-    let c = came (is_target w filter row) _ chosen e in
+    let c = came (holds w filter row) _ chosen e in
     let d = came (targets w filter rows) _ chosen c.next in
     let more : AllByRecursion P d.first = targets_all w filter P rows d.first all.1 d.was in
     let are : (if c.first then row ∷ d.first else d.first) ≡ chosen = same_ok _ _ d.next in
@@ -93,7 +92,7 @@ pub targets_pairs : (w : World) (filter : Option BoundExpr) (R : Row → Row →
     → targets w filter rows ≡ Ok chosen → EachToLater R chosen
 targets_pairs w filter R [] chosen all e = let none : [] ≡ chosen = same_ok _ _ e in subst (EachToLater R) none tt
 targets_pairs w filter R (row ∷ rows) chosen all e =
-    let c = came (is_target w filter row) _ chosen e in
+    let c = came (holds w filter row) _ chosen e in
     let d = came (targets w filter rows) _ chosen c.next in
     let more : EachToLater R d.first = targets_pairs w filter R rows d.first all.1 d.was in
     let first : AllByRecursion (R row) d.first = targets_all w filter (R row) rows d.first all.0 d.was in

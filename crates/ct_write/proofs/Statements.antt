@@ -26,7 +26,7 @@ use Rattle.ct_write.specs.Duplicates.{duplicate}
 use Rattle.ct_write.specs.Fitting.{IsFit}
 use Rattle.ct_write.specs.Laws.{SetsColumns, IsOfTable, Suits, EachSuits, IsOfKinds, AreAccepted, UpdatesKeepKeys, DeletesAll}
 use Rattle.ct_write.specs.Rows.{no_row, set_columns, assigned, nulls, with_its_key, with_key_of, inserted, updated, deleted, targets, changes_of}
-use Rattle.ct_write.specs.Steps.{each}
+use Rattle.ct_types.specs.Answers.{each}
 use Rattle.ct_write.specs.Writes.{Context, op_of, mask_of_ids, mask_of, kept_context, write_of, writes_of}
 use Rattle.ct_write.proofs.Accepting.{Takes, all_apply, rows_are_put}
 use Rattle.ct_write.proofs.Keys.{rows_put, less_differs, all_present, Replaces, keys_kept, all_gone}

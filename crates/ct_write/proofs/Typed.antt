@@ -17,11 +17,10 @@ use Rattle.ct_types.specs.declared.value.Value.TheVariants.{Null}
 use Rattle.ct_model.specs.Schemas.{AllHold}
 use Rattle.ct_model.specs.Tables.{key_of}
 use Rattle.ct_expr.specs.Meaning.{World, on, value}
-use Rattle.ct_expr.specs.Outcomes.{Outcome}
+use Rattle.ct_types.specs.Answers.{Answer, each}
 use Rattle.ct_write.specs.Fitting.{AreFit}
 use Rattle.ct_write.specs.Laws.{Suits, EachSuits}
 use Rattle.ct_write.specs.Rows.{assigned, nulls, set_columns}
-use Rattle.ct_write.specs.Steps.{each}
 use Rattle.ct_write.proofs.Parts.{came, same_ok}
 
 -- a value for each column, of the column's kind
@@ -77,10 +76,10 @@ kinds_assigned columns (id ∷ ids) [] row kinds take = kinds
 kinds_assigned columns (id ∷ ids) (v ∷ values) row kinds take =
     kinds_assigned columns ids values (set row (id - 1) v) (kinds_set columns row (id - 1) v kinds take.0) take.1
 
-suited : (found : Option Column) (r : Outcome Value) (v : Value) → r ≡ Ok v → IfSome found (λ column. IfOk r (λ x. has_kind column.kind x ≡ true))
+suited : (found : Option Column) (r : Answer Value) (v : Value) → r ≡ Ok v → IfSome found (λ column. IfOk r (λ x. has_kind column.kind x ≡ true))
     → IfSome found (λ column. has_kind column.kind v ≡ true)
 suited None r v is suits = tt
-suited (Some column) r v is suits = subst (λ (r : Outcome Value). IfOk r (λ x. has_kind column.kind x ≡ true)) is suits
+suited (Some column) r v is suits = subst (λ (r : Answer Value). IfOk r (λ x. has_kind column.kind x ≡ true)) is suits
 
 pub tuple_takes : (w : World) (columns : List Column) (row : Row) (ids : List ℕ) (exprs : List BoundExpr) (values : List Value)
     → EachSuits w columns row ids exprs → each (value (on w row)) exprs ≡ Ok values → AllTake columns ids values

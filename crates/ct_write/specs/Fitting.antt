@@ -10,7 +10,7 @@ use Rattle.ct_types.specs.declared.schema.Column.{Column}
 use Rattle.ct_types.specs.declared.value.Row.{Row}
 use Rattle.ct_types.specs.declared.value.Value.{Value}
 use Rattle.ct_types.specs.declared.value.Value.TheVariants.{Null, Int, Text, Bytes}
-use Rattle.ct_expr.specs.Outcomes.{Outcome, ◌>>=◌}
+use Rattle.ct_types.specs.Answers.{Answer, ◌>>=◌}
 
 -- from -2^31 to 2^31 - 1; `negsuc n` is -(n + 1)
 abbrev pub is_int : ℤ → Bool
@@ -25,23 +25,23 @@ is_within (kind.NVarChar most) (Text t) = nat_le (code_points t) most
 is_within (kind.VarBinary most) (Bytes b) = nat_le (length b) most
 is_within type value = true
 
-abbrev pub passes : Bool → Outcome (Unit {0}) → Outcome (Unit {0})
+abbrev pub passes : Bool → Answer (Unit {0}) → Answer (Unit {0})
 passes b otherwise = if b then Ok tt else otherwise
 
 -- a value in a column
-abbrev pub fit : Column → Value → Outcome (Unit {0})
+abbrev pub fit : Column → Value → Answer (Unit {0})
 fit column Null = passes column.nullable (Err (NotNull column.name))
 fit column (Int n) = passes (is_within column.kind (Int n)) (Err Overflow)
 fit column (Text t) = passes (is_within column.kind (Text t)) (Err (TooLong column.name))
 fit column (Bytes b) = passes (is_within column.kind (Bytes b)) (Err (TooLong column.name))
 
 -- column by column
-abbrev pub fit_values : List Column → List Value → Outcome (Unit {0})
+abbrev pub fit_values : List Column → List Value → Answer (Unit {0})
 fit_values (column ∷ columns) (v ∷ values) = fit column v >>= (λ passed. fit_values columns values)
 fit_values columns values = Ok tt
 
 -- a row; where there is none, nothing is fitted
-abbrev pub fit_row : List Column → Option Row → Outcome (Unit {0})
+abbrev pub fit_row : List Column → Option Row → Answer (Unit {0})
 fit_row columns None = Ok tt
 fit_row columns (Some row) = fit_values columns row.0
 

@@ -7,7 +7,6 @@ use Rattle.ct_types.specs.declared.bound.BoundSet.{BoundSet}
 use Rattle.ct_types.specs.declared.bound.BoundWrite.{BoundWrite}
 use Rattle.ct_types.specs.declared.bound.RowChange.{RowChange}
 use Rattle.ct_types.specs.declared.bound.RowChange.TheVariants.{Insert, Update, Delete}
-use Rattle.ct_types.specs.declared.catalogue.Catalogued.{Catalogued}
 use Rattle.ct_types.specs.declared.entry.Write.{Write}
 use Rattle.ct_types.specs.declared.schema.Column.{Column}
 use Rattle.ct_types.specs.declared.schema.Schema.{Schema}

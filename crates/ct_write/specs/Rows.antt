@@ -10,11 +10,9 @@ use Rattle.ct_types.specs.declared.value.Row.{Row}
 use Rattle.ct_types.specs.declared.value.Value.{Value}
 use Rattle.ct_types.specs.declared.value.Value.TheVariants.{Null}
 use Rattle.ct_model.specs.Tables.{key_of}
-use Rattle.ct_expr.specs.Logic.{Truth}
-use Rattle.ct_expr.specs.Meaning.{World, on, value, truth}
-use Rattle.ct_expr.specs.Outcomes.{Outcome, ◌>>=◌}
+use Rattle.ct_expr.specs.Meaning.{World, on, value, holds}
+use Rattle.ct_types.specs.Answers.{Answer, ◌>>=◌, each}
 use Rattle.ct_write.specs.declared.changes.Changed.{Changed}
-use Rattle.ct_write.specs.Steps.{each}
 
 -- VALUES and the context name no column
 abbrev pub no_row : Row
@@ -22,19 +20,10 @@ no_row = record { 0 = [] }
 
 -- ---- which rows
 
-abbrev pub is_true : Truth → Bool
-is_true (Some b) = b
-is_true None = false
-
--- WHERE is true; where it is not written, each row is a target
-abbrev pub is_target : World → Option BoundExpr → Row → Outcome Bool
-is_target w None row = Ok true
-is_target w (Some filter) row = truth (on w row) filter >>= (λ t. Ok (is_true t))
-
--- the targets, in the order of the rows
-abbrev pub targets : World → Option BoundExpr → List Row → Outcome (List Row)
+-- those on which WHERE is true, in the order of the rows; where it is not written, each row
+abbrev pub targets : World → Option BoundExpr → List Row → Answer (List Row)
 targets w filter [] = Ok []
-targets w filter (row ∷ rows) = is_target w filter row >>= (λ takes. targets w filter rows >>= (λ more. Ok (if takes then row ∷ more else more)))
+targets w filter (row ∷ rows) = holds w filter row >>= (λ takes. targets w filter rows >>= (λ more. Ok (if takes then row ∷ more else more)))
 
 -- ---- what is made of them
 
@@ -50,7 +39,7 @@ abbrev pub with_its_key : Schema → List Value → Changed
 with_its_key schema values = record { key = key_of schema (record { 0 = values }); row = Some (record { 0 = values }) }
 
 -- the row of a tuple: columns that the list does not name get NULL
-abbrev pub inserted : World → Schema → List ℕ → List BoundExpr → Outcome Changed
+abbrev pub inserted : World → Schema → List ℕ → List BoundExpr → Answer Changed
 inserted w schema columns tuple = each (value (on w no_row)) tuple >>= (λ values. Ok (with_its_key schema (assigned columns values (nulls schema.columns))))
 
 abbrev pub with_key_of : Schema → Row → List Value → Changed
@@ -60,14 +49,14 @@ abbrev pub set_columns : List BoundSet → List ℕ
 set_columns sets = map (λ set. set.column) sets
 
 -- each value of the SET list is that on the row before the update
-abbrev pub updated : World → Schema → List BoundSet → Row → Outcome Changed
+abbrev pub updated : World → Schema → List BoundSet → Row → Answer Changed
 updated w schema sets row = each (λ set. value (on w row) set.value) sets >>= (λ values. Ok (with_key_of schema row (assigned (set_columns sets) values row.0)))
 
 abbrev pub deleted : Schema → Row → Changed
 deleted schema row = record { key = key_of schema row; row = None }
 
 -- in the order of VALUES, or in that of the rows
-abbrev pub changes_of : World → Schema → RowChange → List Row → Outcome (List Changed)
+abbrev pub changes_of : World → Schema → RowChange → List Row → Answer (List Changed)
 changes_of w schema (Insert columns tuples) rows = each (inserted w schema columns) tuples
 changes_of w schema (Update sets filter) rows = targets w filter rows >>= (λ chosen. each (updated w schema sets) chosen)
 changes_of w schema (Delete filter) rows = targets w filter rows >>= (λ chosen. Ok (map (deleted schema) chosen))

@@ -19,7 +19,7 @@ use Rattle.ct_types.specs.declared.value.Value.TheVariants.{Bytes}
 use Rattle.ct_model.specs.Tables.{has_masks}
 use Rattle.ct_mask.specs.Masks.{IsId}
 use Rattle.ct_expr.specs.Meaning.{World, on, value}
-use Rattle.ct_expr.specs.Outcomes.{Outcome, ◌>>=◌}
+use Rattle.ct_types.specs.Answers.{Answer, ◌>>=◌}
 use Rattle.ct_write.specs.declared.changes.Changed.{Changed}
 use Rattle.ct_write.specs.Fitting.{fit_row}
 use Rattle.ct_write.specs.Rows.{no_row, set_columns, changes_of}
@@ -31,11 +31,11 @@ abbrev pub Context : Type 0
 Context = Option (List ℕ)
 
 -- at most 128 bytes; NULL is no context
-abbrev pub fit_context : Value → Outcome Context
+abbrev pub fit_context : Value → Answer Context
 fit_context (Bytes b) = if nat_le (length b) 128 then Ok (Some b) else Err (TooLong (codes "CHANGE_TRACKING_CONTEXT"))
 fit_context v = Ok None
 
-abbrev pub context_of : World → Option BoundExpr → Outcome Context
+abbrev pub context_of : World → Option BoundExpr → Answer Context
 context_of w None = Ok None
 context_of w (Some expr) = value (on w no_row) expr >>= fit_context
 
@@ -84,10 +84,10 @@ write_of table change context = recorded table (op_of change) (mask_of table.tra
 -- ---- the statement
 
 -- once all rows are evaluated, all are fitted, row by row
-abbrev pub fitted : Schema → List Changed → Outcome (Unit {0})
+abbrev pub fitted : Schema → List Changed → Answer (Unit {0})
 fitted schema changes = in_turn (λ changed. fit_row schema.columns changed.row) changes
 
-unfoldable pub writes_of : World → Catalogued → BoundWrite → List Row → Outcome (List Write)
+unfoldable pub writes_of : World → Catalogued → BoundWrite → List Row → Answer (List Write)
 writes_of w table bound rows =
     context_of w bound.context
     >>= (λ context. changes_of w table.schema bound.change rows

@@ -1,14 +1,14 @@
 ghost use Rattle.std.specs.Prelude.{◌≡◌, map, IfOk};
-ghost use Rattle.ct_expr.specs.Outcomes.{Gives};
+ghost use Rattle.ct_types.specs.Answers.{Gives, each};
 ghost use Rattle.ct_write.specs.Rows as spec;
-ghost use Rattle.ct_write.specs.Steps.{each};
 
-use crate::lists::add;
 use crate::targets::targets;
 use crate::values::{assign, nulls, set_columns, set_values, tuple_values};
 use ct_expr::{Env, Versions};
 use ct_model::key_of_row;
-use ct_types::{BoundExpr, BoundSet, Copies, Key, List, Memory, Refusal, Row, RowChange, Schema};
+use ct_types::{
+    BoundExpr, BoundSet, Copies, Key, List, Memory, Refusal, Row, RowChange, Schema, push,
+};
 use sqlite_items::Items;
 use std::alloc::Global;
 
@@ -54,7 +54,7 @@ fn insert_all<L: Versions>(
     let mut changes = List::new(alloc);
     for tuple in tuples {
         let made = insert_one(alloc, schema, columns, tuple.as_slice(), env, versions)?;
-        add(&mut changes, made)?;
+        push(&mut changes, made)?;
     }
     Ok(changes)
 }
@@ -91,7 +91,7 @@ fn update_all<L: Versions>(
 {
     let mut changes = List::new(alloc);
     for before in rows {
-        add(
+        push(
             &mut changes,
             update_one(alloc, schema, sets, before, env, versions)?,
         )?;

@@ -7,7 +7,6 @@ mod contexts;
 mod duplicates;
 mod fitting;
 mod laws;
-mod lists;
 mod masks;
 mod statement;
 mod targets;

@@ -1,6 +1,6 @@
 ghost use Rattle.std.specs.Prelude.{◌≡◌, map, IfOk};
 ghost use Rattle.std.specs.List.{AllByRecursion};
-ghost use Rattle.ct_expr.specs.Outcomes.{Gives};
+ghost use Rattle.ct_types.specs.Answers.{Gives};
 ghost use Rattle.ct_write.specs.Fitting.{IsFit};
 ghost use Rattle.ct_write.specs.Writes as spec;
 

@@ -1,12 +1,10 @@
 ghost use Rattle.std.specs.Prelude.{◌≡◌, ◌-◌, map, slice_set, OnOk, IfOk};
 ghost use Rattle.ct_expr.specs.Meaning.{value};
-ghost use Rattle.ct_expr.specs.Outcomes.{Gives};
+ghost use Rattle.ct_types.specs.Answers.{Gives, each};
 ghost use Rattle.ct_write.specs.Rows.{assigned, nulls as all_null, set_columns as columns_of};
-ghost use Rattle.ct_write.specs.Steps.{each};
 
-use crate::lists::add;
 use ct_expr::{Env, Versions, eval};
-use ct_types::{BoundExpr, BoundSet, Column, Copies, List, Memory, Refusal, Row, Value};
+use ct_types::{BoundExpr, BoundSet, Column, Copies, List, Memory, Refusal, Row, Value, push};
 use std::alloc::Global;
 
 /// The values of a tuple.
@@ -21,7 +19,7 @@ pub(crate) fn tuple_values<L: Versions>(
 {
     let mut values = List::new(alloc);
     for expr in tuple {
-        add(&mut values, eval(alloc, expr, row, env, versions)?)?;
+        push(&mut values, eval(alloc, expr, row, env, versions)?)?;
     }
     Ok(values)
 }
@@ -38,7 +36,7 @@ pub(crate) fn set_values<L: Versions>(
 {
     let mut values = List::new(alloc);
     for set in sets {
-        add(&mut values, eval(alloc, &set.value, row, env, versions)?)?;
+        push(&mut values, eval(alloc, &set.value, row, env, versions)?)?;
     }
     Ok(values)
 }

@@ -1,6 +1,6 @@
 use Rattle.std.proofs.Common.{◌≡◌, map}
 use Rattle.std.specs.Vec.Iter.{into_iter_items}
-use Rattle.ct_names.specs.Answers.{each, onto}
+use Rattle.ct_types.specs.Answers.{each, onto}
 use Rattle.ct_bind_expr.specs.Places.{closed}
 use Rattle.ct_bind_expr.specs.Versions.{operand}
 use Rattle.ct_bind_expr.specs.Walked.{walked}

@@ -1,6 +1,6 @@
 use Rattle.std.proofs.Common.{◌≡◌, map}
 use Rattle.std.specs.Vec.Iter.{into_iter_items}
-use Rattle.ct_names.specs.Answers.{onto}
+use Rattle.ct_types.specs.Answers.{onto}
 use Rattle.ct_bind_expr.specs.Places.{closed}
 use Rattle.ct_bind_expr.specs.Versions.{values}
 use Rattle.ct_bind_expr.specs.Walked.{walked}

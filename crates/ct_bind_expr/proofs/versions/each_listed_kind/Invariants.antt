@@ -1,5 +1,5 @@
 use Rattle.std.proofs.Common.{◌≡◌, [], take, drop}
-use Rattle.ct_names.specs.Answers.{each_after, onto}
+use Rattle.ct_types.specs.Answers.{each_after, onto}
 use Rattle.ct_bind_expr.specs.Versions.{listed_kind}
 use Rattle.ct_bind_expr.proofs.versions.each_listed_kind.Given as goal
 

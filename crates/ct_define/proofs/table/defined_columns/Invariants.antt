@@ -1,5 +1,5 @@
 use Rattle.std.proofs.Common.{◌≡◌, drop}
-use Rattle.ct_names.specs.Answers.{onto, each}
+use Rattle.ct_types.specs.Answers.{onto, each}
 use Rattle.ct_define.specs.Definitions.{defined_column}
 use Rattle.ct_define.proofs.table.defined_columns.Given as goal
 

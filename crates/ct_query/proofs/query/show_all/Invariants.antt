@@ -1,6 +1,6 @@
 use Rattle.std.proofs.Common.{◌≡◌, take, Ok}
 use Rattle.ct_query.specs.Answer.{shown}
-use Rattle.ct_query.specs.Lists.{each}
+use Rattle.ct_types.specs.Answers.{each}
 use Rattle.ct_query.specs.Steps.{lent}
 use Rattle.ct_query.proofs.query.show_all.Given as goal
 

@@ -9,4 +9,4 @@ returns-in_err-made g c =
 
 pub loop-tuple-preserved : goal.loop-tuple-preserved
 loop-tuple-preserved g c =
-    rw c.in_ok-add.ensures (each_more _ _ _ c.tuple-item.result _ _ c.loop-tuple-test.true c.tuple-item.is c.loop-tuple.invariant (rw c.as_slice.ensures at c.in_ok-made.ensures))
+    rw c.in_ok-push.ensures (each_more _ _ _ c.tuple-item.result _ _ c.loop-tuple-test.true c.tuple-item.is c.loop-tuple.invariant (rw c.as_slice.ensures at c.in_ok-made.ensures))

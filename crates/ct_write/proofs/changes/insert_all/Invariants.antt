@@ -1,6 +1,6 @@
 use Rattle.std.proofs.Common.{◌≡◌, take, Ok}
 use Rattle.ct_write.specs.Rows.{inserted}
-use Rattle.ct_write.specs.Steps.{each}
+use Rattle.ct_types.specs.Answers.{each}
 use Rattle.ct_write.proofs.changes.insert_all.Given as goal
 
 abbrev pub invariant-loop-tuple : goal.invariant-loop-tuple

@@ -9,4 +9,4 @@ returns-in_err-update_one g c =
 
 pub loop-before-preserved : goal.loop-before-preserved
 loop-before-preserved g c =
-    rw c.in_ok-add.ensures (each_more _ _ _ c.before-item.result _ _ c.loop-before-test.true c.before-item.is c.loop-before.invariant c.in_ok-update_one.ensures)
+    rw c.in_ok-push.ensures (each_more _ _ _ c.before-item.result _ _ c.loop-before-test.true c.before-item.is c.loop-before.invariant c.in_ok-update_one.ensures)

@@ -1,6 +1,6 @@
 use Rattle.std.proofs.Common.{◌≡◌, take, Ok}
 use Rattle.ct_write.specs.Rows.{updated}
-use Rattle.ct_write.specs.Steps.{each}
+use Rattle.ct_types.specs.Answers.{each}
 use Rattle.ct_write.proofs.changes.update_all.Given as goal
 
 abbrev pub invariant-loop-before : goal.invariant-loop-before

@@ -9,4 +9,4 @@ returns-in_err-eval g c =
 
 pub loop-set-preserved : goal.loop-set-preserved
 loop-set-preserved g c =
-    rw c.in_ok-add.ensures (each_more _ _ _ c.set-item.result _ _ c.loop-set-test.true c.set-item.is c.loop-set.invariant c.in_ok-eval.ensures)
+    rw c.in_ok-push.ensures (each_more _ _ _ c.set-item.result _ _ c.loop-set-test.true c.set-item.is c.loop-set.invariant c.in_ok-eval.ensures)

@@ -1,6 +1,6 @@
 use Rattle.std.proofs.Common.{◌≡◌, take, Ok}
 use Rattle.ct_expr.specs.Meaning.{value}
-use Rattle.ct_write.specs.Steps.{each}
+use Rattle.ct_types.specs.Answers.{each}
 use Rattle.ct_write.proofs.values.set_values.Given as goal
 
 abbrev pub invariant-loop-set : goal.invariant-loop-set

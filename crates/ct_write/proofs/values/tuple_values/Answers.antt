@@ -9,4 +9,4 @@ returns-in_err-eval g c =
 
 pub loop-expr-preserved : goal.loop-expr-preserved
 loop-expr-preserved g c =
-    rw c.in_ok-add.ensures (each_more _ _ _ c.expr-item.result _ _ c.loop-expr-test.true c.expr-item.is c.loop-expr.invariant c.in_ok-eval.ensures)
+    rw c.in_ok-push.ensures (each_more _ _ _ c.expr-item.result _ _ c.loop-expr-test.true c.expr-item.is c.loop-expr.invariant c.in_ok-eval.ensures)

@@ -1,6 +1,6 @@
 use Rattle.std.proofs.Common.{◌≡◌, take, Ok}
 use Rattle.ct_expr.specs.Meaning.{value}
-use Rattle.ct_write.specs.Steps.{each}
+use Rattle.ct_types.specs.Answers.{each}
 use Rattle.ct_write.proofs.values.tuple_values.Given as goal
 
 abbrev pub invariant-loop-expr : goal.invariant-loop-expr
