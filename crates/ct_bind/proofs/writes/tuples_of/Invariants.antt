@@ -1,0 +1,7 @@
+use Rattle.std.proofs.Common.{◌≡◌, ◌+◌, [], ◌++◌, map, filter, take, drop}
+use Rattle.ct_types.specs.Answers.{onto, each}
+use Rattle.ct_bind.specs.Writes.{tuple_of}
+use Rattle.ct_bind.proofs.writes.tuples_of.Given as goal
+
+abbrev pub invariant-loop-values : goal.invariant-loop-values
+invariant-loop-values l = onto l.made (each (tuple_of l.binder.tables.now l.binder.variables.now l.targets) (drop l.values-index l.tuples)) ≡ each (tuple_of l.binder.tables.now l.binder.variables.now l.targets) l.tuples

@@ -1,0 +1,6 @@
+pub mod Limits
+pub mod Sources
+pub mod Queries
+pub mod Writes
+pub mod Binding
+pub mod Laws
