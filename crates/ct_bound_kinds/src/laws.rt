@@ -1,0 +1,17 @@
+ghost use Rattle.ct_bound_kinds.specs.Laws.{BoundAreWellFormed, ValidAreSound, WalkedAreWellFormed};
+
+/// The tables of a valid database are sound: they have distinct ids, and each has a key.
+pub fn valid_are_sound()
+    ensures { ValidAreSound }
+{}
+
+/// What an expression comes to is well formed on each row of its place, and has the kind that it is said to have.
+pub fn walked_are_well_formed()
+    ensures { WalkedAreWellFormed }
+{}
+
+/// What a statement comes to is well formed: it names only tables, columns and variables that are there, and each expression
+/// has the kind that its place wants, on the row on which it is evaluated.
+pub fn bound_are_well_formed()
+    ensures { BoundAreWellFormed }
+{}

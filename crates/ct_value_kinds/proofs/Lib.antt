@@ -1,0 +1,6 @@
+pub mod Kept
+pub mod Fitting
+pub mod Rules
+pub mod Versions
+pub mod Values
+pub mod Types
