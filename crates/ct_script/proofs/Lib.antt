@@ -7,4 +7,5 @@ pub mod PlainBack
 pub mod PlainLines
 pub mod PlainRuns
 pub mod Runs
+pub mod Sizes
 pub mod Steps

@@ -1,5 +1,5 @@
 -- What follows of the reading of scripts.
-use Rattle.std.specs.Prelude.{◌≡◌, ◌≢◌, ◌↔◌, ◌⊎◌, ℕ, List, [], None, Result, Ok, Err}
+use Rattle.std.specs.Prelude.{◌≡◌, ◌≢◌, ◌↔◌, ◌⊎◌, ◌≤◌, ℕ, List, [], None, length, Result, Ok, Err}
 use Rattle.std.specs.List.{AllByRecursion}
 use Rattle.std.specs.Str.Lines.{lines}
 use Rattle.ct_script.specs.Statements.{Statement, phases_of}
@@ -7,6 +7,7 @@ use Rattle.ct_script.specs.Faults.{first_fault}
 use Rattle.ct_script.specs.Schedule.{script_of}
 use Rattle.ct_script.specs.Answer.{Reads}
 use Rattle.ct_script.specs.Plain.{ArePlain, written}
+use Rattle.ct_script.specs.Size.{IsWithin}
 use Rattle.ct_script.specs.declared.script.Script.{Script}
 use Rattle.ct_script.specs.declared.error.ScriptError.{ScriptError}
 use Rattle.ct_script.specs.declared.error.ScriptError.TheVariants.{Memory}
@@ -34,3 +35,7 @@ HasPlainForm = (bytes : List ℕ) (script : Script) → AllByRecursion (AllByRec
 abbrev pub OneAnswer : Type 0
 OneAnswer = (bytes : List ℕ) (answer other : Result Script ScriptError) → answer ≢ Err Memory → other ≢ Err Memory
     → Reads bytes answer → Reads bytes other → answer ≡ other
+
+-- the script of so many bytes at most has at most so many statements, numbered up to that, with no text that is too long
+abbrev pub AreWithin : Type 0
+AreWithin = (bytes : List ℕ) (script : Script) (most : ℕ) → length bytes ≤ most → Reads bytes (Ok script) → IsWithin most script

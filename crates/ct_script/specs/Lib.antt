@@ -6,4 +6,5 @@ pub mod Placing
 pub mod Plain
 pub mod Reading
 pub mod Schedule
+pub mod Size
 pub mod Statements

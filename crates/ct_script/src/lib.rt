@@ -17,6 +17,8 @@ mod script;
 mod tests;
 
 pub use error::ScriptError;
-pub use laws::{one_answer, plain_scripts_are_read_back, scripts_have_a_plain_form};
+pub use laws::{
+    one_answer, plain_scripts_are_read_back, scripts_are_within, scripts_have_a_plain_form,
+};
 pub use read::read_script;
 pub use script::{Lane, Phase, Script};
