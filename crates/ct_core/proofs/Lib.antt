@@ -1,3 +1,5 @@
-pub mod Masks
-pub mod Replies
-pub mod Versions
+pub mod Narrow
+pub mod Ranges
+pub mod Rows
+pub mod Told
+pub mod Worlds

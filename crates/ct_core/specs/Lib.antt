@@ -1,2 +1,3 @@
-pub mod Numbers
+pub mod Range
+pub mod Rows
 pub mod Stands

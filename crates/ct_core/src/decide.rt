@@ -1,251 +1,214 @@
-ghost use Rattle.std.specs.Prelude.{◌≡◌, ◌<◌, ◌^◌, IfOk, codes, [], ◌∷◌, pos};
-ghost use Rattle.ct_model.specs.Net.{net as net_changes};
-ghost use Rattle.std.specs.Option.{option_copied};
-ghost use Rattle.ct_machine.specs.Step.{t_schema, int_column, key_at, row_at, changes_grid, script_table as script_table_of, decide_database as database_outcome, decide_create as create_outcome, decide_enable as enable_outcome, decide_insert as insert_outcome, decide_delete as delete_outcome, decide_changes as changes_outcome, decide};
-ghost use Rattle.ct_core.specs.Numbers.{AreKeptUpTo};
+ghost use Rattle.std.specs.Prelude.{◌≡◌, [], Ok, IfOk, slice_get};
+ghost use Rattle.ct_types.specs.Answers.{Gives};
+ghost use Rattle.ct_model.specs.Tables.{catalogued as catalogued_table, table_of};
+ghost use Rattle.ct_write.specs.Writes.{NamesIds, writes_of};
+ghost use Rattle.ct_bind.specs.Binding.{binding};
+ghost use Rattle.ct_bind.specs.Limits.{KeepsLimits};
+ghost use Rattle.ct_machine.specs.Decide as spec;
+ghost use Rattle.ct_machine.specs.Reads.{catalogue as catalogue_of, selected as selected_in, world_of};
+ghost use Rattle.ct_core.specs.Range.{IsNarrow, DecisionIsNarrow};
 
-use crate::grid::show_changes;
-use ct_machine::{Command, Outcome};
-use ct_model::{Db, Table, find_table, has_row, net};
+use crate::reads::{NoVersions, catalogue, catalogued, env, selected};
+use ct_bind::bind;
+use ct_built::is_built;
+use ct_machine::{Command, Decision};
+use ct_model::{Db, Table, find_table};
 use ct_types::{
-    Act, ColType, Column, Grid, Keep, Key, List, Memory, Op, Refusal, Reply, Row, Schema, Text,
-    Value, Write,
+    Act, Bound, BoundSelect, BoundWrite, Copies, Key, List, Memory, Refusal, Reply, Stmt,
+    Variables, Write,
 };
+use ct_write::{duplicate, writes};
 use std::alloc::Global;
 
-/// The id of the script's table, the first that a database gets.
-const TABLE: u32 = 1;
-
-/// The retention that tracking has by default, in seconds.
-const TWO_DAYS: u64 = 172_800;
-
-/// The greatest number of INT.
-const MOST_INT: u32 = 2_147_483_647;
-
-fn column(alloc: Global, name: &str) -> Result<Column, Memory>
-    ensures { IfOk result (λ made. made ≡ int_column name.now) }
+fn decide_select(alloc: Global, db: &Db, query: &BoundSelect) -> Result<Decision, Memory>
+    ensures is { IfOk result (λ made. made ≡ spec.answered (selected_in db.now query.now)) }
+    ensures narrow { IfOk result DecisionIsNarrow }
 {
-    Ok(Column {
-        name: Text::of(alloc, name)?,
-        kind: ColType::Int,
-        nullable: false,
-    })
-}
-
-fn schema(alloc: Global) -> Result<Schema, Memory>
-    ensures { IfOk result (λ made. made ≡ t_schema) }
-{
-    let mut columns = List::new(alloc);
-    columns.push(column(alloc, "id")?)?;
-    columns.push(column(alloc, "v")?)?;
-    let mut key = List::new(alloc);
-    key.push(1)?;
-    Ok(Schema {
-        id: TABLE,
-        name: Text::of(alloc, "t")?,
-        columns,
-        key,
-    })
-}
-
-fn make_key(alloc: Global, id: u32) -> Result<Key, Memory>
-    ensures { IfOk result (λ made. made ≡ key_at id) }
-{
-    let mut values = List::new(alloc);
-    values.push(Value::Int(i64::from(id)))?;
-    Ok(Key(values))
-}
-
-fn make_row(alloc: Global, id: u32, v: u32) -> Result<Row, Memory>
-    ensures { IfOk result (λ made. made ≡ row_at id v) }
-{
-    let mut values = List::new(alloc);
-    values.push(Value::Int(i64::from(id)))?;
-    values.push(Value::Int(i64::from(v)))?;
-    Ok(Row(values))
-}
-
-/// The table of the script, if it was created.
-fn script_table(db: &Db) -> Option<&Table>
-    ensures { option_copied result ≡ script_table_of db.now }
-{
-    find_table(db.tables.as_slice(), TABLE)
-}
-
-fn no_table(alloc: Global) -> Result<Outcome, Memory>
-    ensures { IfOk result (λ made. made ≡ Outcome.Refuses (Refusal.NoObject (codes "t"))) }
-{
-    let name = Text::of(alloc, "t")?;
-    Ok(Outcome::Refuses(Refusal::NoObject { name }))
-}
-
-fn commit_of(alloc: Global, write: Write) -> Result<Act, Memory>
-    ensures { IfOk result (λ made. made ≡ Act.Commit (write ∷ [])) }
-{
-    let mut writes = List::new(alloc);
-    writes.push(write)?;
-    Ok(Act::Commit(writes))
-}
-
-fn decide_database(alloc: Global, keep: Option<Keep>) -> Result<Outcome, Memory>
-    ensures { IfOk result (λ made. made ≡ database_outcome keep) }
-{
-    if keep.is_some() {
-        let name = Text::of(alloc, "database")?;
-        return Ok(Outcome::Refuses(Refusal::AlreadyTracked { name }));
+    match selected(alloc, db, query) {
+        Ok(grid) => Ok(Decision::Answers(Reply::Rows(grid))),
+        Err(Refusal::Memory) => Err(Memory),
+        Err(refusal) => Ok(Decision::Refuses(refusal)),
     }
-    let keep = Keep {
-        retention: TWO_DAYS,
-        auto: true,
-    };
-    Ok(Outcome::Commits(Act::Database(Some(keep)), Reply::Done))
 }
 
-fn decide_create(alloc: Global, db: &Db) -> Result<Outcome, Memory>
-    ensures { IfOk result (λ made. made ≡ create_outcome (script_table_of db.now)) }
+fn key_at(alloc: Global, writes: &[Write], place: usize) -> Result<Key, Memory>
+    ensures { IfOk result (λ made. made ≡ spec.key_in (slice_get writes.now place)) }
 {
-    match script_table(db) {
-        Some(_) => {
-            let name = Text::of(alloc, "t")?;
-            Ok(Outcome::Refuses(Refusal::Exists { name }))
+    match writes.get(place) {
+        None => Ok(Key(List::new(alloc))),
+        Some(write) => write.key.copy(alloc),
+    }
+}
+
+/// The commit of writes; a statement that writes no row commits nothing.
+fn counted(writes: List<Write>) -> Decision
+    ensures is { result ≡ spec.counted writes }
+    ensures narrow { DecisionIsNarrow result }
+{
+    let count = writes.as_slice().len() as u64;
+    if count == 0 {
+        return Decision::Answers(Reply::Count(0));
+    }
+    Decision::Commits(Act::Commit(writes), Reply::Count(count))
+}
+
+/// Refused where an insert repeats a key.
+fn without_duplicates(alloc: Global, table: &Table, writes: List<Write>) -> Result<Decision, Memory>
+    ensures is { IfOk result (λ made. made ≡ spec.fitted table.now (Ok writes)) }
+    ensures narrow { IfOk result DecisionIsNarrow }
+{
+    if writes.as_slice().len() > u32::MAX as usize {
+        return Err(Memory);
+    }
+    match duplicate(writes.as_slice(), table.rows.as_slice(), &table.schema) {
+        None => Ok(counted(writes)),
+        Some(place) => Ok(Decision::Refuses(Refusal::Duplicate {
+            table: table.schema.name.copy(alloc)?,
+            key: key_at(alloc, writes.as_slice(), place as usize)?,
+        })),
+    }
+}
+
+/// What a statement writes in its table.
+fn writes_on(
+    alloc: Global,
+    db: &Db,
+    write: &BoundWrite,
+    table: &Table,
+) -> Result<List<Write>, Refusal>
+    requires { NamesIds write.now.change }
+    ensures { Gives (writes_of (world_of db.now) (catalogued_table table.now) write.now table.now.rows) result }
+{
+    let env = env(alloc, db)?;
+    let catalogued = catalogued(alloc, table)?;
+    writes(
+        alloc,
+        write,
+        &catalogued,
+        table.rows.as_slice(),
+        &env,
+        &NoVersions,
+    )
+}
+
+fn write_to(alloc: Global, db: &Db, write: &BoundWrite, table: &Table) -> Result<Decision, Memory>
+    requires { NamesIds write.now.change }
+    ensures is { IfOk result (λ made. made ≡ spec.written db.now write.now (Some table.now)) }
+    ensures narrow { IfOk result DecisionIsNarrow }
+{
+    match writes_on(alloc, db, write, table) {
+        Ok(writes) => without_duplicates(alloc, table, writes),
+        Err(Refusal::Memory) => Err(Memory),
+        Err(refusal) => Ok(Decision::Refuses(refusal)),
+    }
+}
+
+fn decide_write(alloc: Global, db: &Db, write: &BoundWrite) -> Result<Decision, Memory>
+    requires { NamesIds write.now.change }
+    ensures is { IfOk result (λ made. made ≡ spec.written db.now write.now (table_of db.now.tables write.now.table)) }
+    ensures narrow { IfOk result DecisionIsNarrow }
+{
+    match find_table(db.tables.as_slice(), write.table) {
+        None => Ok(Decision::Answers(Reply::Count(0))),
+        Some(table) => write_to(alloc, db, write, table),
+    }
+}
+
+/// A form that is not built is refused, and let go.
+fn not_built<T: Drop>(_statement: T) -> Decision
+    ensures is { result ≡ Decision.Refuses Refusal.NotBuilt }
+    ensures narrow { DecisionIsNarrow result }
+{
+    Decision::Refuses(Refusal::NotBuilt)
+}
+
+/// What an INSERT, UPDATE or DELETE comes to, which is let go.
+fn write_once(alloc: Global, db: &Db, write: BoundWrite) -> Result<Decision, Memory>
+    requires { NamesIds write.change }
+    ensures is { IfOk result (λ made. made ≡ spec.written db.now write (table_of db.now.tables write.table)) }
+    ensures narrow { IfOk result DecisionIsNarrow }
+{
+    decide_write(alloc, db, &write)
+}
+
+/// What a SELECT comes to, which is let go.
+fn select_once(alloc: Global, db: &Db, query: BoundSelect) -> Result<Decision, Memory>
+    ensures is { IfOk result (λ made. made ≡ spec.answered (selected_in db.now query)) }
+    ensures narrow { IfOk result DecisionIsNarrow }
+{
+    decide_select(alloc, db, &query)
+}
+
+/// What a bound statement comes to.
+#[tactic(auto, unfolding(ct_machine::specs::Decide::decide_bound))]
+fn decide_bound(alloc: Global, db: &Db, statement: Bound) -> Result<Decision, Memory>
+    requires { KeepsLimits statement }
+    ensures is { IfOk result (λ made. made ≡ spec.decide_bound db.now statement) }
+    ensures narrow { IfOk result DecisionIsNarrow }
+{
+    match statement {
+        Bound::AcceptOption => Ok(Decision::Answers(Reply::Done)),
+        Bound::AlterDatabase(keep) => Ok(Decision::Commits(Act::Database(keep), Reply::Done)),
+        Bound::CreateTable(schema) => Ok(Decision::Commits(Act::Define(schema), Reply::Done)),
+        Bound::EnableTracking { table, masks } => {
+            Ok(Decision::Commits(Act::Enable { table, masks }, Reply::Done))
         }
-        None => Ok(Outcome::Commits(Act::Define(schema(alloc)?), Reply::Done)),
+        Bound::Write(write) => write_once(alloc, db, write),
+        Bound::Select(query) => select_once(alloc, db, query),
+        Bound::SetVariable { variable: _, value } => Ok(not_built(value)),
+        Bound::Declare {
+            variable,
+            kind: _,
+            value,
+        } => Ok(not_built((variable, value))),
+        Bound::DisableTracking { table: _ }
+        | Bound::TruncateTable { table: _ }
+        | Bound::Begin
+        | Bound::Commit
+        | Bound::Rollback
+        | Bound::SetIsolation(_)
+        | Bound::SetLockTimeout => Ok(Decision::Refuses(Refusal::NotBuilt)),
     }
 }
 
-fn enable(alloc: Global, keep: Option<Keep>, table: &Table) -> Result<Outcome, Memory>
-    ensures { IfOk result (λ made. made ≡ enable_outcome keep (Some table.now)) }
+/// What a sentence means among the tables, without variables.
+fn bound(alloc: Global, db: &Db, statement: &Stmt) -> Result<Bound, Refusal>
+    requires { IsNarrow db.now }
+    ensures value { Gives (binding (catalogue_of db.now) db.now.keep [] statement.now) result }
+    ensures limits { IfOk result KeepsLimits }
 {
-    if table.tracked.is_some() {
-        let name = Text::of(alloc, "t")?;
-        return Ok(Outcome::Refuses(Refusal::AlreadyTracked { name }));
-    }
-    if keep.is_none() {
-        return Ok(Outcome::Refuses(Refusal::TrackingOff));
-    }
-    let act = Act::Enable {
-        table: table.schema.id,
-        masks: false,
-    };
-    Ok(Outcome::Commits(act, Reply::Done))
+    let tables = catalogue(alloc, db)?;
+    let names = Variables(List::new(alloc));
+    bind(alloc, statement, &tables, db.keep, &names)
 }
 
-fn decide_enable(alloc: Global, db: &Db) -> Result<Outcome, Memory>
-    ensures { IfOk result (λ made. made ≡ enable_outcome db.now.keep (script_table_of db.now)) }
+fn decide_sentence(alloc: Global, db: &Db, statement: &Stmt) -> Result<Decision, Memory>
+    requires { IsNarrow db.now }
+    ensures is { IfOk result (λ made. made ≡ spec.once_bound db.now (binding (catalogue_of db.now) db.now.keep [] statement.now)) }
+    ensures narrow { IfOk result DecisionIsNarrow }
 {
-    match script_table(db) {
-        Some(table) => enable(alloc, db.keep, table),
-        None => no_table(alloc),
+    match bound(alloc, db, statement) {
+        Ok(bound) => decide_bound(alloc, db, bound),
+        Err(Refusal::Memory) => Err(Memory),
+        Err(refusal) => Ok(Decision::Refuses(refusal)),
     }
 }
 
-fn insert(alloc: Global, table: &Table, id: u32, v: u32) -> Result<Outcome, Memory>
-    ensures { IfOk result (λ made. made ≡ insert_outcome (Some table.now) id v) }
-{
-    if id > MOST_INT || v > MOST_INT {
-        return Ok(Outcome::Refuses(Refusal::Overflow));
-    }
-    let key = make_key(alloc, id)?;
-    if has_row(&table.schema, table.rows.as_slice(), &key) {
-        let table = Text::of(alloc, "t")?;
-        return Ok(Outcome::Refuses(Refusal::Duplicate { table, key }));
-    }
-    let write = Write {
-        table: table.schema.id,
-        op: Op::Insert,
-        key,
-        row: Some(make_row(alloc, id, v)?),
-        tracked: table.tracked.is_some(),
-        mask: 0,
-        context: None,
-    };
-    Ok(Outcome::Commits(commit_of(alloc, write)?, Reply::Count(1)))
-}
-
-fn decide_insert(alloc: Global, db: &Db, id: u32, v: u32) -> Result<Outcome, Memory>
-    ensures { IfOk result (λ made. made ≡ insert_outcome (script_table_of db.now) id v) }
-{
-    match script_table(db) {
-        Some(table) => insert(alloc, table, id, v),
-        None => no_table(alloc),
-    }
-}
-
-fn delete(alloc: Global, table: &Table, id: u32) -> Result<Outcome, Memory>
-    ensures { IfOk result (λ made. made ≡ delete_outcome (Some table.now) id) }
-{
-    let key = make_key(alloc, id)?;
-    if !has_row(&table.schema, table.rows.as_slice(), &key) {
-        return Ok(Outcome::Answers(Reply::Count(0)));
-    }
-    let write = Write {
-        table: table.schema.id,
-        op: Op::Delete,
-        key,
-        row: None,
-        tracked: table.tracked.is_some(),
-        mask: 0,
-        context: None,
-    };
-    Ok(Outcome::Commits(commit_of(alloc, write)?, Reply::Count(1)))
-}
-
-fn decide_delete(alloc: Global, db: &Db, id: u32) -> Result<Outcome, Memory>
-    ensures { IfOk result (λ made. made ≡ delete_outcome (script_table_of db.now) id) }
-{
-    match script_table(db) {
-        Some(table) => delete(alloc, table, id),
-        None => no_table(alloc),
-    }
-}
-
-fn list_changes(alloc: Global, db: &Db, table: u32, last: u32) -> Result<Grid, Memory>
-    requires version { db.now.version < 2 ^ 63 }
-    requires kept { AreKeptUpTo db.now.version db.now.kept }
-    ensures { IfOk result (λ made. made ≡ changes_grid (net_changes db.now table (Some (pos last)))) }
-{
-    let rows = net(alloc, db, table, Some(i64::from(last)))?;
-    show_changes(alloc, rows.as_slice())
-}
-
-fn changes(alloc: Global, db: &Db, table: &Table, last: u32) -> Result<Outcome, Memory>
-    requires version { db.now.version < 2 ^ 63 }
-    requires kept { AreKeptUpTo db.now.version db.now.kept }
-    ensures { IfOk result (λ made. made ≡ changes_outcome db.now (Some table.now) last) }
-{
-    if table.tracked.is_none() {
-        let name = Text::of(alloc, "t")?;
-        return Ok(Outcome::Refuses(Refusal::NotTracked { name }));
-    }
-    let grid = list_changes(alloc, db, table.schema.id, last)?;
-    Ok(Outcome::Answers(Reply::Rows(grid)))
-}
-
-fn decide_changes(alloc: Global, db: &Db, last: u32) -> Result<Outcome, Memory>
-    requires version { db.now.version < 2 ^ 63 }
-    requires kept { AreKeptUpTo db.now.version db.now.kept }
-    ensures { IfOk result (λ made. made ≡ changes_outcome db.now (script_table_of db.now) last) }
-{
-    match script_table(db) {
-        Some(table) => changes(alloc, db, table, last),
-        None => no_table(alloc),
-    }
-}
-
-/// What a statement comes to in a database. The versions of the kept commits are at most the database's, so that
-/// those which CHANGETABLE shows are numbers of BIGINT.
-#[tactic(auto, unfolding(ct_machine::specs::Step::decide))]
-pub(crate) fn decide_command(alloc: Global, db: &Db, what: Command) -> Result<Outcome, Memory>
-    requires version { db.now.version < 2 ^ 63 }
-    requires kept { AreKeptUpTo db.now.version db.now.kept }
-    ensures { IfOk result (λ made. made ≡ decide db.now what) }
+/// What a statement comes to in a database whose tables have at most 64 columns each.
+#[tactic(auto, unfolding(ct_machine::specs::Decide::decide))]
+pub(crate) fn decide_command(alloc: Global, db: &Db, what: &Command) -> Result<Decision, Memory>
+    requires { IsNarrow db.now }
+    ensures is { IfOk result (λ made. made ≡ spec.decide db.now what.now) }
+    ensures narrow { IfOk result DecisionIsNarrow }
 {
     match what {
-        Command::Database => decide_database(alloc, db.keep),
-        Command::Create => decide_create(alloc, db),
-        Command::Enable => decide_enable(alloc, db),
-        Command::Insert { id, v } => decide_insert(alloc, db, id, v),
-        Command::Delete { id } => decide_delete(alloc, db, id),
-        Command::Changes { last } => decide_changes(alloc, db, last),
+        Command::Wrong(refusal) => Ok(Decision::Refuses(refusal.copy(alloc)?)),
+        Command::Sql(statement) => {
+            if is_built(alloc, statement)? {
+                decide_sentence(alloc, db, statement)
+            } else {
+                Ok(Decision::Refuses(Refusal::NotBuilt))
+            }
+        }
     }
 }

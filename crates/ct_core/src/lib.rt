@@ -1,8 +1,9 @@
 //! The core of the server: the newest database with the machine's bookkeeping, behind one call for each event.
 #![tactic(auto)]
 
+mod changes;
 mod core_state;
 mod decide;
-mod grid;
+mod reads;
 
 pub use core_state::Core;

@@ -1,10 +1,10 @@
--- How plays and their order go on, and that whole plays of the same statements are one.
-use Rattle.std.proofs.Common.{◌≡◌, ℕ, ◌+◌, Bool, true, false, ◌||◌, cond, List, [], ◌∷◌, ◌++◌, inl, inr, length, refl, sym, ap, subst, ◌∙◌, arith}
+-- How plays go on, and that whole plays of the same statements are one.
+use Rattle.std.proofs.Common.{◌≡◌, Bool, true, false, ◌||◌, cond, List, [], ◌∷◌, ◌++◌, inl, inr, map, refl, sym, ap, subst, ◌∙◌}
 use Rattle.ct_types.specs.declared.reply.Reply.{Reply}
 use Rattle.ct_machine.specs.declared.command.Command.{Command}
 use Rattle.ct_machine.specs.declared.command.Journaled.{Journaled}
 use Rattle.ct_machine.specs.Machine.{Machine}
-use Rattle.ct_machine.specs.Play.{IsPlay, IsInOrder, IsWhole, Follows, after, end_of, is_memory}
+use Rattle.ct_machine.specs.Play.{IsPlay, IsWhole, Follows, Call, after, call_of, end_of, is_memory}
 use Rattle.ct_machine.specs.Step.{step}
 
 pub IsPlay-push : (m : Machine) (journal : List Journaled) (one : Journaled) → IsPlay m journal → Follows (end_of m journal) one.what one.reply → IsPlay m (journal ++ one ∷ [])
@@ -14,14 +14,6 @@ IsPlay-push m (first ∷ journal) one play next = (play.0, IsPlay-push (after m 
 pub end_of-push : (m : Machine) (journal : List Journaled) (one : Journaled) → end_of m (journal ++ one ∷ []) ≡ after (end_of m journal) one.what one.reply
 end_of-push m [] one = refl
 end_of-push m (first ∷ journal) one = end_of-push (after m first.what first.reply) journal one
-
-pub IsInOrder-push : (session number : ℕ) (commands : List Command) (journal : List Journaled) (what : Command) (one : Journaled) → IsInOrder session number commands journal
-    → one.session ≡ session → one.number ≡ number + length commands → one.what ≡ what → IsInOrder session number (commands ++ what ∷ []) (journal ++ one ∷ [])
-IsInOrder-push session number [] [] what one order s n w = (s, omega arith, w, tt)
-IsInOrder-push session number [] (first ∷ journal) what one order s n w = absurd order
-IsInOrder-push session number (here ∷ commands) [] what one order s n w = absurd order
-IsInOrder-push session number (here ∷ commands) (first ∷ journal) what one order s n w =
-    (order.0, order.1, order.2, IsInOrder-push session (number + 1) commands journal what one order.3 s (omega arith) w)
 
 both_false : (a b : Bool) → a || b ≡ false → (a ≡ false) × (b ≡ false)
 both_false true b e = cc
@@ -44,21 +36,29 @@ same_entry a b s n w r =
 next_machine : (m : Machine) (what : Command) (reply : Reply) → is_memory reply ≡ false → after m what reply ≡ (step m what).0
 next_machine m what reply whole = ap (λ b. cond b m (step m what).0) whole
 
-pub whole_plays : (m : Machine) (session number : ℕ) (commands : List Command) (journal other : List Journaled)
-    → IsInOrder session number commands journal → IsInOrder session number commands other
+nil_is_not_cons : {x : Call} {xs : List Call} → [] ≡ x ∷ xs → ⊥
+nil_is_not_cons e = cc
+
+heads : {x y : Call} {xs ys : List Call} → x ∷ xs ≡ y ∷ ys → x ≡ y
+heads e = cc
+
+tails : {x y : Call} {xs ys : List Call} → x ∷ xs ≡ y ∷ ys → xs ≡ ys
+tails e = cc
+
+pub whole_plays : (m : Machine) (journal other : List Journaled) → map call_of journal ≡ map call_of other
     → IsPlay m journal → IsPlay m other → IsWhole journal → IsWhole other → journal ≡ other
-whole_plays m session number [] [] [] o p f g w v = refl
-whole_plays m session number [] [] (b ∷ ks) o p f g w v = absurd p
-whole_plays m session number [] (a ∷ js) other o p f g w v = absurd o
-whole_plays m session number (what ∷ others) [] other o p f g w v = absurd o
-whole_plays m session number (what ∷ others) (a ∷ js) [] o p f g w v = absurd p
-whole_plays m session number (what ∷ others) (a ∷ js) (b ∷ ks) o p f g w v =
+whole_plays m [] [] e f g w v = refl
+whole_plays m [] (b ∷ ks) e f g w v = absurd (nil_is_not_cons e)
+whole_plays m (a ∷ js) [] e f g w v = absurd (nil_is_not_cons (sym e))
+whole_plays m (a ∷ js) (b ∷ ks) e f g w v =
+    let same : call_of a ≡ call_of b = heads e in
+    let what : a.what ≡ b.what = ap (λ x. x.what) same in
     let wa = both_false (is_memory a.reply) _ w in
     let wb = both_false (is_memory b.reply) _ v in
-    let ra : a.reply ≡ (step m what).1 = own m a.what a.reply f.0 wa.0 ∙ ap (λ x. (step m x).1) o.2 in
-    let rb : b.reply ≡ (step m what).1 = own m b.what b.reply g.0 wb.0 ∙ ap (λ x. (step m x).1) p.2 in
-    let na : after m a.what a.reply ≡ (step m what).0 = next_machine m a.what a.reply wa.0 ∙ ap (λ x. (step m x).0) o.2 in
-    let nb : after m b.what b.reply ≡ (step m what).0 = next_machine m b.what b.reply wb.0 ∙ ap (λ x. (step m x).0) p.2 in
-    let rest : js ≡ ks = whole_plays (step m what).0 session (number + 1) others js ks o.3 p.3 (subst (λ x. IsPlay x js) na f.1) (subst (λ x. IsPlay x ks) nb g.1) wa.1 wb.1 in
-    let head : a ≡ b = same_entry a b (o.0 ∙ sym p.0) (o.1 ∙ sym p.1) (o.2 ∙ sym p.2) (ra ∙ sym rb) in
+    let ra : a.reply ≡ (step m b.what).1 = own m a.what a.reply f.0 wa.0 ∙ ap (λ x. (step m x).1) what in
+    let rb : b.reply ≡ (step m b.what).1 = own m b.what b.reply g.0 wb.0 in
+    let na : after m a.what a.reply ≡ (step m b.what).0 = next_machine m a.what a.reply wa.0 ∙ ap (λ x. (step m x).0) what in
+    let nb : after m b.what b.reply ≡ (step m b.what).0 = next_machine m b.what b.reply wb.0 in
+    let rest : js ≡ ks = whole_plays (step m b.what).0 js ks (tails e) (subst (λ x. IsPlay x js) na f.1) (subst (λ x. IsPlay x ks) nb g.1) wa.1 wb.1 in
+    let head : a ≡ b = same_entry a b (ap (λ x. x.session) same) (ap (λ x. x.number) same) what (ra ∙ sym rb) in
     ap (λ x. x ∷ js) head ∙ ap (λ xs. b ∷ xs) rest

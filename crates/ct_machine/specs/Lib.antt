@@ -1,6 +1,7 @@
+pub mod Decide
 pub mod Laws
 pub mod Machine
 pub mod Play
-pub mod Sound
+pub mod Reads
 pub mod Step
 pub mod Transcript

@@ -1,5 +1,5 @@
--- When a journal is a play of the machine, and in which order its statements stand. This project's own.
-use Rattle.std.specs.Prelude.{◌≡◌, ℕ, ◌+◌, Bool, true, false, List, [], ◌∷◌, ◌⊎◌, if◌then◌else◌}
+-- When a journal is a play of the machine. This project's own.
+use Rattle.std.specs.Prelude.{◌≡◌, ℕ, Bool, true, false, List, [], ◌∷◌, ◌⊎◌, if◌then◌else◌}
 use Rattle.std.specs.List.{list_any}
 use Rattle.ct_types.specs.declared.refusal.Refusal.TheVariants.{Memory}
 use Rattle.ct_types.specs.declared.reply.Reply.{Reply}
@@ -32,12 +32,15 @@ abbrev pub end_of : Machine → List Journaled → Machine
 end_of m [] = m
 end_of m (one ∷ more) = end_of (after m one.what one.reply) more
 
--- the journal has these statements of a session in their order, numbered from this number on, and no other
-abbrev pub IsInOrder : ℕ → ℕ → List Command → List Journaled → Type 0
-IsInOrder session number [] [] = Unit {0}
-IsInOrder session number (what ∷ others) (one ∷ more) = (one.session ≡ session) × (one.number ≡ number) × (one.what ≡ what) × IsInOrder session (number + 1) others more
-IsInOrder session number [] (one ∷ more) = ⊥
-IsInOrder session number (what ∷ others) [] = ⊥
+-- what a session asked for, without the reply
+pub record Call : Type 0 where
+  pub session : ℕ
+  pub number : ℕ
+  pub what : Command
+
+-- the call that an entry of a journal replies to
+abbrev pub call_of : Journaled → Call
+call_of one = record { session = one.session; number = one.number; what = one.what }
 
 -- no reply says that memory was wanting
 abbrev pub IsWhole : List Journaled → Type 0

@@ -16,7 +16,7 @@ use Rattle.ct_types.specs.declared.reply.Grid.{Grid}
 use Rattle.ct_types.specs.declared.reply.Reply.{Reply}
 use Rattle.ct_types.specs.declared.reply.Reply.TheVariants as reply
 use Rattle.ct_machine.specs.declared.command.Journaled.{Journaled}
-use Rattle.ct_machine.specs.Step.{op_name}
+use Rattle.ct_machine.specs.Reads.{op_name}
 
 -- ---- values
 
@@ -171,3 +171,15 @@ text_from place (one ∷ more) = block_text place one ++ text_from (place + 1) m
 -- places count from 1
 abbrev pub transcript : List Journaled → List ℕ
 transcript journal = text_from 1 journal
+
+-- ---- runs
+
+-- the journals of phases that follow a phase, the first of which has this place next: a line stands before each
+abbrev pub further_from : ℕ → List (List Journaled) → List ℕ
+further_from place [] = []
+further_from place (journal ∷ more) = codes "#phase\n" ++ text_from place journal ++ further_from (place + length journal) more
+
+-- the transcript of a run, by the journals of its phases: places count on through the phases
+abbrev pub run_text : List (List Journaled) → List ℕ
+run_text [] = []
+run_text (journal ∷ more) = text_from 1 journal ++ further_from (length journal + 1) more

@@ -1,20 +1,12 @@
-use ct_types::Reply;
+use ct_types::{Refusal, Reply, Stmt};
 
-/// What a statement of a session asks for, in the forms that a script may have today.
-#[derive(Clone, Copy, Debug, PartialEq, Eq)]
+/// What a statement of a session asks for.
+#[derive(Debug, Drop)]
 pub enum Command {
-    /// `ALTER DATABASE d SET CHANGE_TRACKING = ON`
-    Database,
-    /// `CREATE TABLE t (id INT PRIMARY KEY, v INT NOT NULL)`
-    Create,
-    /// `ALTER TABLE t ENABLE CHANGE_TRACKING`
-    Enable,
-    /// `INSERT t VALUES (id, v)`
-    Insert { id: u32, v: u32 },
-    /// `DELETE FROM t WHERE id = id`
-    Delete { id: u32 },
-    /// `SELECT * FROM CHANGETABLE(CHANGES t, last) AS CT`
-    Changes { last: u32 },
+    /// A sentence of the language.
+    Sql(Stmt),
+    /// A text that is none, with the refusal that its tokens or the grammar give.
+    Wrong(Refusal),
 }
 
 /// A statement of a session, by its number there, with its reply.

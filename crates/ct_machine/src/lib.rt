@@ -4,13 +4,10 @@
 
 mod checks;
 mod command;
+mod decision;
 mod laws;
-mod outcome;
 
 pub use checks::{draws_version, has_number, wants_memory};
 pub use command::{Command, Journaled};
-pub use laws::{
-    entries_apply, entries_draw, one_whole_play, opens_sound, plays_go_on, plays_keep_valid,
-    sound_is_valid, stays_sound,
-};
-pub use outcome::Outcome;
+pub use decision::Decision;
+pub use laws::{entries_draw, one_whole_play, plays_go_on};

@@ -9,6 +9,6 @@ mod reply;
 mod tests;
 mod value;
 
-pub use journal::{print_block, print_journal};
+pub use journal::{print_block, print_run};
 pub use laws::transcripts_go_on;
 pub use value::print_value;

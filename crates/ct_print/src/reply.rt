@@ -1,6 +1,6 @@
 ghost use Rattle.std.specs.Prelude.{◌≡◌, ◌++◌, OnOk, codes, string_bytes, flat_map};
 ghost use Rattle.std.specs.Fmt.{decimal};
-ghost use Rattle.ct_machine.specs.Step.{op_name};
+ghost use Rattle.ct_machine.specs.Reads.{op_name};
 ghost use Rattle.ct_machine.specs.Transcript.{joined, touched_text, verdict_text, copy_text, grid_text, reply_text};
 
 use crate::refusal::{add_count, add_refusal};

@@ -1,4 +1,4 @@
-use crate::{print_block, print_journal, print_value};
+use crate::{print_block, print_value};
 use ct_machine::{Command, Journaled};
 use ct_types::{
     Bin, CopyOut, Grid, Key, List, Memory, Op, Refusal, Reply, Row, Text, Touched, Value, Verdict,
@@ -63,7 +63,7 @@ fn entry(session: u8, number: u32, reply: Reply) -> Journaled {
     Journaled {
         session,
         number,
-        what: Command::Enable,
+        what: Command::Wrong(Refusal::NotBuilt),
         reply,
     }
 }
@@ -213,15 +213,5 @@ fn refusals_print(rt: HostRuntime) -> Result<(), Fail> {
         let made = block(alloc, Reply::Refused(refusal))?;
         assert_eq!(rt; made.as_bytes(), want.as_bytes(), "{want}");
     }
-    Ok(())
-}
-
-#[test]
-fn journals_print(rt: HostRuntime) -> Result<(), Fail> {
-    let alloc = rt.alloc();
-    let journal = [entry(2, 1, Reply::Done), entry(1, 1, Reply::Count(0))];
-    let made = print_journal(alloc, &journal)?;
-    let want = "[1] 2.1\nOK\n[2] 1.1\nrows 0\n";
-    assert_eq!(rt; made.as_bytes(), want.as_bytes());
     Ok(())
 }

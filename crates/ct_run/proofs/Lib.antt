@@ -1,5 +1,4 @@
-pub mod Later
-pub mod Lines
-pub mod Numbers
-pub mod OneReading
-pub mod Readers
+pub mod Calls
+pub mod Commands
+pub mod Goes
+pub mod Runs

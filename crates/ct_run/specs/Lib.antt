@@ -1,4 +1,4 @@
 pub mod Laws
-pub mod Reading
-pub mod Script
+pub mod Schedule
+pub mod Steps
 pub mod Top

@@ -1,16 +1,19 @@
 -- What a call of `run_top` is, by its status. This project's own.
-use Rattle.std.specs.Prelude.{◌≡◌, ◌≤◌, ◌⊎◌, ℕ, codes, List, [], ◌∷◌, length, map, Option, String, string_bytes}
+use Rattle.std.specs.Prelude.{◌≡◌, ◌≤◌, ◌⊎◌, ℕ, codes, List, [], ◌∷◌, ◌++◌, flat_map, length, map, Option, Ok, Err, String, string_bytes}
+use Rattle.std.specs.Fmt.{decimal}
 use Rattle.std.specs.declared.alloc.Global.{Global}
 use Rattle.std.specs.Io.KnownBytes.{Appends, Consumes, IsAtEnd, Keeps}
-use Rattle.ct_machine.specs.declared.command.Command.{Command}
 use Rattle.ct_machine.specs.declared.command.Journaled.{Journaled}
 use Rattle.ct_faults.specs.Bytes.{most_bytes, AppendsFront, TakesAtMost, TakesTooMany}
 use Rattle.ct_faults.specs.Causes.{Rose}
 use Rattle.ct_model.specs.Apply.{no_db}
 use Rattle.ct_machine.specs.Machine.{opening}
-use Rattle.ct_machine.specs.Play.{IsPlay, IsInOrder, IsWhole}
-use Rattle.ct_machine.specs.Transcript.{transcript}
-use Rattle.ct_run.specs.Script.{IsScript, IsNoScript}
+use Rattle.ct_machine.specs.Play.{IsPlay, IsWhole}
+use Rattle.ct_machine.specs.Transcript.{run_text}
+use Rattle.ct_script.specs.Answer.{Reads}
+use Rattle.ct_script.specs.declared.error.ScriptError.TheVariants as script
+use Rattle.ct_script.specs.declared.script.Script.{Script}
+use Rattle.ct_run.specs.Schedule.{AreInOrder}
 use Rattle.ct_run.specs.declared.status.Status.{Status}
 use Rattle.ct_run.specs.declared.status.Status.TheVariants.{Done, Usage, BadScript, ReadFault, WriteFault, DiskFault, Foreign, Memory, TooLarge}
 
@@ -67,30 +70,46 @@ pub record ReadsWhole (source : SourceChange) (bytes : List ℕ) : Type 0 where
 abbrev pub Says : SinkChange → List ℕ → Type 0
 Says sink text = Appends sink.before sink.now text ⊎ (AppendsFront sink.before sink.now text × SinkFailed sink)
 
--- the journal is a play of the script by session 1, from the empty database
-pub record IsRunOf (script : List Command) (journal : List Journaled) : Type 0 where
-  pub in_order : IsInOrder 1 1 script journal
-  pub is_play : IsPlay (opening no_db) journal
+-- all entries of a run, from the first phase to the last
+abbrev pub all_of : List (List Journaled) → List Journaled
+all_of journals = flat_map (λ journal. journal) journals
+
+-- the journals of the phases are a play of the script, from the empty database
+pub record IsRunOf (script : Script) (journals : List (List Journaled)) : Type 0 where
+  pub in_order : AreInOrder script.phases journals
+  pub is_play : IsPlay (opening no_db) (all_of journals)
 
 -- what the sink got of the transcript, by the status: at status 0 all of it, and no reply says that memory was wanting; at
 -- 4 a front part, since a write failed, and no reply says so either; at 7 a front part, which may be none or all of it;
 -- no other status comes of a play
-abbrev pub Writes : Status → SinkChange → List Journaled → Type 0
-Writes Done sink journal = IsWhole journal × Appends sink.before sink.now (transcript journal)
-Writes WriteFault sink journal = IsWhole journal × SinkFailed sink × AppendsFront sink.before sink.now (transcript journal)
-Writes Memory sink journal = AppendsFront sink.before sink.now (transcript journal)
-Writes other sink journal = ⊥
+abbrev pub Writes : Status → SinkChange → List (List Journaled) → Type 0
+Writes Done sink journals = IsWhole (all_of journals) × Appends sink.before sink.now (run_text journals)
+Writes WriteFault sink journals = IsWhole (all_of journals) × SinkFailed sink × AppendsFront sink.before sink.now (run_text journals)
+Writes Memory sink journals = AppendsFront sink.before sink.now (run_text journals)
+Writes other sink journals = ⊥
 
--- the bytes are a script, and a play of it was written
+-- a run of the script was written
+abbrev pub PlaysScript : Status → SinkChange → Script → Type 0
+PlaysScript status sink script = (journals : List (List Journaled)) × IsRunOf script journals × Writes status sink journals
+
+-- the bytes are a script, and a run of it was written
 abbrev pub PlaysBytes : Status → SinkChange → List ℕ → Type 0
-PlaysBytes status sink bytes = (script : List Command) × IsScript bytes script × ((journal : List Journaled) × IsRunOf script journal × Writes status sink journal)
+PlaysBytes status sink bytes = (script : Script) × Reads bytes (Ok script) × PlaysScript status sink script
+
+-- the line that tells the first line at fault and the least rule that it breaks
+abbrev pub fault_text : ℕ → ℕ → List ℕ
+fault_text line rule = codes "BadScript line " ++ decimal line ++ codes " rule " ++ decimal rule ++ codes "\n"
+
+-- the bytes are no script, and their first fault was written
+abbrev pub TellsFault : SinkChange → List ℕ → Type 0
+TellsFault sink bytes = (line : ℕ) × (rule : ℕ) × Reads bytes (Err (script.BadScript line rule)) × Says sink (fault_text line rule)
 
 -- what comes of the bytes that were read
 abbrev pub Answers : Status → SinkChange → List ℕ → Type 0
 Answers Done sink bytes = PlaysBytes Done sink bytes
 Answers WriteFault sink bytes = PlaysBytes WriteFault sink bytes
 Answers Memory sink bytes = Keeps sink.before sink.now ⊎ PlaysBytes Memory sink bytes
-Answers BadScript sink bytes = IsNoScript bytes × Says sink (codes "BadScript line 1 rule 10\n")
+Answers BadScript sink bytes = TellsFault sink bytes
 Answers other sink bytes = ⊥
 
 -- the source was read to its end, and its bytes were answered
@@ -112,11 +131,4 @@ Runs Usage source sink disk = ⊥
 -- what a call is, by its status and its words
 abbrev pub Ends : Status → List (String Global) → SourceChange → SinkChange → DiskChange → Type 0
 Ends Usage words source sink disk = (¬ IsRun words) × Keeps source.before source.now × Says sink (codes "Usage\n")
-Ends Done words source sink disk = IsRun words × Runs Done source sink disk
-Ends BadScript words source sink disk = IsRun words × Runs BadScript source sink disk
-Ends ReadFault words source sink disk = IsRun words × Runs ReadFault source sink disk
-Ends WriteFault words source sink disk = IsRun words × Runs WriteFault source sink disk
-Ends DiskFault words source sink disk = IsRun words × Runs DiskFault source sink disk
-Ends Foreign words source sink disk = IsRun words × Runs Foreign source sink disk
-Ends Memory words source sink disk = IsRun words × Runs Memory source sink disk
-Ends TooLarge words source sink disk = IsRun words × Runs TooLarge source sink disk
+Ends status words source sink disk = IsRun words × Runs status source sink disk

@@ -1,4 +1,4 @@
-ghost use Rattle.ct_run.specs.Laws.{Completes, OneScript, OneRun, OneTranscript};
+ghost use Rattle.ct_run.specs.Laws.{Completes, OneCommand, OneRun, OneTranscript};
 
 /// A call with the word `run`, whose source leaves a script and whose source and sink do not fail, comes to status 0 or
 /// to want of memory.
@@ -6,9 +6,9 @@ pub fn completes()
     ensures { Completes }
 {}
 
-/// Bytes are the script of at most one list of commands.
-pub fn one_script()
-    ensures { OneScript }
+/// A text is one command.
+pub fn one_command()
+    ensures { OneCommand }
 {}
 
 /// Bytes have at most one run in which memory was never wanting.

@@ -1,39 +1,106 @@
-ghost use Rattle.std.specs.Prelude.{◌≡◌, ◌<◌, ◌^◌, IfOk, length};
+ghost use Rattle.std.specs.Prelude.{◌≡◌, [], IfOk, length, sum_by};
+ghost use Rattle.ct_faults.specs.Bytes.{most_bytes};
+ghost use Rattle.ct_script.specs.Size.{script_size, IsLaneWithin, IsPhaseWithin, IsWithin};
+ghost use Rattle.ct_model.specs.Apply.{no_db};
+ghost use Rattle.ct_machine.specs.Machine.{opening};
+ghost use Rattle.ct_core.specs.Stands.{Stands};
+ghost use Rattle.ct_run.specs.Schedule.{numbered_in_lane, numbered_in};
+ghost use Rattle.ct_run.specs.Steps.{Goes};
 ghost use Rattle.ct_run.specs.Top.{IsRunOf};
 
 use crate::Gate;
+use crate::command::command_of;
 use ct_core::Core;
-use ct_machine::{Command, Journaled};
+use ct_machine::Journaled;
+use ct_script::{Lane, Phase, Script};
 use ct_types::{List, Memory};
 use std::alloc::Global;
 
-/// The one session of a script.
-const SESSION: u8 = 1;
-
-/// Plays the commands, one after the other, from the empty database, and tells the gate of each.
-pub(crate) fn play_all<G: Gate>(
+/// Plays the statements of a lane, one after the other, puts them into the journal, and tells the gate of each.
+fn play_lane<D, G: Gate>(
     alloc: Global,
-    commands: &[Command],
+    core: &mut Core<D>,
+    journal: &mut List<Journaled>,
+    lane: &Lane,
     gate: &G,
-) -> Result<List<Journaled>, Memory>
-    requires { length commands.now < 2 ^ 31 }
-    ensures run { IfOk result (IsRunOf commands.now) }
-    ensures count { IfOk result (λ journal. length journal ≡ length commands.now) }
+) -> Result<(), Memory>
+    requires { IsLaneWithin most_bytes lane.now }
+    ensures goes { IfOk result (λ _. Goes (numbered_in_lane lane.now) journal.old journal.new core.old core.new) }
+    ensures disk { core.new.disk ≡ core.old.disk }
 {
-    let mut core = Core::empty(alloc)?;
-    let mut journal = List::new(alloc);
-    let mut number = 1;
-    for what in commands {
-        gate.before(SESSION, number);
-        let reply = core.event(alloc, *what);
-        gate.after(SESSION, number);
+    let mut number = lane.first;
+    for text in lane.statements.as_slice() {
+        let what = command_of(alloc, text)?;
+        gate.before(lane.session, number);
+        let reply = core.event(alloc, lane.session, &what);
+        gate.after(lane.session, number);
         journal.push(Journaled {
-            session: SESSION,
+            session: lane.session,
             number,
-            what: *what,
+            what,
             reply,
         })?;
         number += 1;
     }
+    Ok(())
+}
+
+/// Plays a phase: its lanes, one after the other.
+fn play_phase<D, G: Gate>(
+    alloc: Global,
+    core: &mut Core<D>,
+    phase: &Phase,
+    gate: &G,
+) -> Result<List<Journaled>, Memory>
+    requires { IsPhaseWithin most_bytes phase.now }
+    ensures goes { IfOk result (λ journal. Goes (numbered_in phase.now) [] journal core.old core.new) }
+    ensures disk { core.new.disk ≡ core.old.disk }
+{
+    let mut journal = List::new(alloc);
+    for lane in phase.sessions.as_slice() {
+        play_lane(alloc, core, &mut journal, lane, gate)?;
+    }
     Ok(journal)
+}
+
+/// Plays the phases of a script, from a core that stands for the opening of the empty database: their journals.
+fn play_all<D, G: Gate>(
+    alloc: Global,
+    core: &mut Core<D>,
+    script: &Script,
+    gate: &G,
+) -> Result<List<List<Journaled>>, Memory>
+    requires within { IsWithin most_bytes script.now }
+    requires opening { Stands core.old (opening no_db) }
+    ensures run { IfOk result (IsRunOf script.now) }
+    ensures count { IfOk result (λ journals. sum_by length journals ≡ script_size script.now) }
+    ensures disk { core.new.disk ≡ core.old.disk }
+{
+    let mut journals = List::new(alloc);
+    for phase in script.phases.as_slice() {
+        journals.push(play_phase(alloc, core, phase, gate)?)?;
+    }
+    Ok(journals)
+}
+
+/// Plays a script from the empty database: the journals of its phases. The core has the disk meanwhile, which comes back
+/// as it was handed in.
+pub(crate) fn play_script<D, G: Gate>(
+    alloc: Global,
+    script: &Script,
+    disk: D,
+    gate: &G,
+) -> (Result<List<List<Journaled>>, Memory>, D)
+    requires { IsWithin most_bytes script.now }
+    ensures run { IfOk result.0 (IsRunOf script.now) }
+    ensures count { IfOk result.0 (λ journals. sum_by length journals ≡ script_size script.now) }
+    ensures disk { result.1 ≡ disk }
+{
+    match Core::fresh(alloc, disk) {
+        Err((disk, Memory)) => (Err(Memory), disk),
+        Ok(mut core) => {
+            let played = play_all(alloc, &mut core, script, gate);
+            (played, core.close())
+        }
+    }
 }

@@ -1,17 +1,20 @@
-ghost use Rattle.std.specs.Prelude.{◌≡◌, ◌<◌, ◌^◌, ◌↔◌, IsTrue, length};
+ghost use Rattle.std.specs.Prelude.{◌≡◌, ◌<◌, ◌≤◌, ◌^◌, ◌↔◌, IsTrue, IfOk, OnErr, length, sum_by};
 ghost use Rattle.std.specs.List.{list_any};
+ghost use Rattle.ct_faults.specs.Bytes.{most_bytes};
 ghost use Rattle.ct_machine.specs.Play.{is_memory};
+ghost use Rattle.ct_script.specs.Size.{IsWithin};
 ghost use Rattle.ct_run.specs.declared.status.Status.{Status as Ending};
-ghost use Rattle.ct_run.specs.Top.{code_of, DiskChange, IsRun, Says, Writes, Answers, Runs, Ends};
+ghost use Rattle.ct_run.specs.Steps.{Performs};
+ghost use Rattle.ct_run.specs.Top.{code_of, DiskChange, IsRun, Says, Writes, Answers, Runs, Ends, all_of, fault_text};
 
-use crate::play::play_all;
-use crate::script::read_script;
+use crate::play::play_script;
 use crate::{Gate, Status};
 use ct_faults::{Disk, ReadError, Sink, Source, read_all, write_all};
 use ct_machine::{Journaled, wants_memory};
-use ct_print::print_journal;
-use ct_types::Memory;
-use std::alloc::Global;
+use ct_print::print_run;
+use ct_script::{Script, ScriptError, read_script};
+use ct_types::{List, Memory};
+use std::alloc::{AllocError, Global};
 use std::sync::Wait;
 use std::thread::Threads;
 
@@ -38,19 +41,29 @@ fn any_wants_memory(journal: &[Journaled]) -> bool
     journal.iter().any(|one| wants_memory(&one.reply))
 }
 
-/// Writes the transcript of a journal: `Done`, or `WriteFault` where a write failed, or `Memory` where a reply wanted
+/// The same of the journals of a run.
+fn run_wants_memory(journals: &[List<Journaled>]) -> bool
+    ensures { result ≡ list_any (λ journal. list_any (λ one. is_memory one.reply) journal) journals.now }
+{
+    journals
+        .iter()
+        .any(|journal| any_wants_memory(journal.as_slice()))
+}
+
+/// Writes the transcript of a run: `Done`, or `WriteFault` where a write failed, or `Memory` where a reply wanted
 /// memory or the transcript finds none.
-fn write_journal<K: Sink>(alloc: Global, journal: &[Journaled], sink: &mut K) -> Status
-    requires { length journal.now < 2 ^ 31 }
+#[tactic(auto, using(crate::proofs::Runs::any_of_all))]
+fn write_run<K: Sink>(alloc: Global, journals: &[List<Journaled>], sink: &mut K) -> Status
+    requires { sum_by length journals.now < 2 ^ 31 }
     ensures { Writes result
         (record { before = K.held sink.old; now = K.held sink.new; faults_before = K.faults sink.old; faults_now = K.faults sink.new })
-        journal.now }
+        journals.now }
 {
-    match print_journal(alloc, journal) {
+    match print_run(alloc, journals) {
         Err(Memory) => Status::Memory,
         Ok(text) => {
             let written = write_all(sink, text.as_bytes());
-            if any_wants_memory(journal) {
+            if run_wants_memory(journals) {
                 return Status::Memory;
             }
             match written {
@@ -61,44 +74,88 @@ fn write_journal<K: Sink>(alloc: Global, journal: &[Journaled], sink: &mut K) ->
     }
 }
 
-/// Plays the script that the bytes are, or says that they are none.
-fn answer<K: Sink, G: Gate>(alloc: Global, bytes: &[u8], sink: &mut K, gate: &G) -> Status
-    requires { length bytes.now < 2 ^ 30 }
-    ensures { Answers result
+/// Says which line of a script is at fault, and the least rule that it breaks.
+fn say_fault<K: Sink>(alloc: Global, sink: &mut K, line: u32, rule: u8) -> Result<(), AllocError>
+    ensures ok { IfOk result (λ _. Says (record { before = K.held sink.old; now = K.held sink.new; faults_before = K.faults sink.old; faults_now = K.faults sink.new })
+        (fault_text line rule)) }
+    ensures err { OnErr result (K.held sink.new ≡ K.held sink.old) }
+{
+    let text = format!(in alloc; "BadScript line {line} rule {rule}\n")?;
+    say(sink, text.as_bytes());
+    Ok(())
+}
+
+/// Plays a script, and writes its transcript. The disk comes back as it was handed in.
+fn perform<K: Sink, D, G: Gate>(
+    alloc: Global,
+    script: &Script,
+    sink: &mut K,
+    disk: D,
+    gate: &G,
+) -> (Status, D)
+    requires { IsWithin most_bytes script.now }
+    ensures performs { Performs result.0
+        (record { before = K.held sink.old; now = K.held sink.new; faults_before = K.faults sink.old; faults_now = K.faults sink.new })
+        script.now }
+    ensures disk { result.1 ≡ disk }
+{
+    let (played, disk) = play_script(alloc, script, disk, gate);
+    let status = match played {
+        Err(Memory) => Status::Memory,
+        Ok(journals) => write_run(alloc, journals.as_slice(), sink),
+    };
+    (status, disk)
+}
+
+/// Plays the script that the bytes are, or says that they are none. The disk comes back as it was handed in.
+fn answer<K: Sink, D, G: Gate>(
+    alloc: Global,
+    bytes: &[u8],
+    sink: &mut K,
+    disk: D,
+    gate: &G,
+) -> (Status, D)
+    requires { length bytes.now ≤ most_bytes }
+    ensures answers { Answers result.0
         (record { before = K.held sink.old; now = K.held sink.new; faults_before = K.faults sink.old; faults_now = K.faults sink.new })
         bytes.now }
+    ensures disk { result.1 ≡ disk }
 {
     match read_script(alloc, bytes) {
-        Err(Memory) => Status::Memory,
-        Ok(None) => {
-            say(sink, b"BadScript line 1 rule 10\n");
-            Status::BadScript
-        }
-        Ok(Some(commands)) => match play_all(alloc, commands.as_slice(), gate) {
-            Err(Memory) => Status::Memory,
-            Ok(journal) => write_journal(alloc, journal.as_slice(), sink),
+        Err(ScriptError::Memory) => (Status::Memory, disk),
+        Err(ScriptError::BadScript { line, rule }) => match say_fault(alloc, sink, line, rule) {
+            Ok(()) => (Status::BadScript, disk),
+            Err(_) => (Status::Memory, disk),
         },
+        Ok(script) => perform(alloc, &script, sink, disk, gate),
     }
 }
 
-/// Reads the source to its end, and answers its bytes. No disk is touched.
-fn run<S: Source, K: Sink, G: Gate>(alloc: Global, source: &mut S, sink: &mut K, gate: &G) -> Status
-    ensures { (disk : DiskChange) → Runs result
+/// Reads the source to its end, and answers its bytes. The disk comes back as it was handed in.
+fn run<S: Source, K: Sink, D, G: Gate>(
+    alloc: Global,
+    source: &mut S,
+    sink: &mut K,
+    disk: D,
+    gate: &G,
+) -> (Status, D)
+    ensures runs { (disks : DiskChange) → Runs result.0
         (record { before = S.left source.old; now = S.left source.new; faults_before = S.faults source.old; faults_now = S.faults source.new })
         (record { before = K.held sink.old; now = K.held sink.new; faults_before = K.faults sink.old; faults_now = K.faults sink.new })
-        disk }
+        disks }
+    ensures disk { result.1 ≡ disk }
 {
     match read_all(alloc, source) {
-        Ok(bytes) => answer(alloc, bytes.as_bytes(), sink, gate),
+        Ok(bytes) => answer(alloc, bytes.as_bytes(), sink, disk, gate),
         Err(ReadError::ReadFault) => {
             say(sink, b"ReadFault\n");
-            Status::ReadFault
+            (Status::ReadFault, disk)
         }
         Err(ReadError::TooLarge) => {
             say(sink, b"TooLarge\n");
-            Status::TooLarge
+            (Status::TooLarge, disk)
         }
-        Err(ReadError::Memory) => Status::Memory,
+        Err(ReadError::Memory) => (Status::Memory, disk),
     }
 }
 
@@ -112,24 +169,26 @@ fn is_run(words: &[String]) -> bool
     }
 }
 
-/// Does what the words ask for. No disk is touched.
-fn end<S: Source, K: Sink, G: Gate>(
+/// Does what the words ask for. The disk comes back as it was handed in.
+fn end<S: Source, K: Sink, D, G: Gate>(
     alloc: Global,
     words: &[String],
     source: &mut S,
     sink: &mut K,
+    disk: D,
     gate: &G,
-) -> Status
-    ensures { (disk : DiskChange) → Ends result words.now
+) -> (Status, D)
+    ensures ends { (disks : DiskChange) → Ends result.0 words.now
         (record { before = S.left source.old; now = S.left source.new; faults_before = S.faults source.old; faults_now = S.faults source.new })
         (record { before = K.held sink.old; now = K.held sink.new; faults_before = K.faults sink.old; faults_now = K.faults sink.new })
-        disk }
+        disks }
+    ensures disk { result.1 ≡ disk }
 {
     if is_run(words) {
-        run(alloc, source, sink, gate)
+        run(alloc, source, sink, disk, gate)
     } else {
         say(sink, b"Usage\n");
-        Status::Usage
+        (Status::Usage, disk)
     }
 }
 
@@ -157,7 +216,7 @@ pub fn run_top<R: Threads + Wait, S: Source, K: Sink, D: Disk + Send, G: Gate + 
         (record { faults_before = D.faults disk; faults_now = D.faults result.disk }) }
     ensures disk { result.disk ≡ disk }
 {
-    let status = end(alloc, words, source, sink, gate);
+    let (status, disk) = end(alloc, words, source, sink, disk, gate);
     Done {
         status: status.code(),
         disk,

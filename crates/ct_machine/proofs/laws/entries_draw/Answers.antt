@@ -1,4 +1,4 @@
-use Rattle.ct_machine.proofs.Soundness.{draws_is}
+use Rattle.ct_machine.proofs.Draws.{draws_is}
 use Rattle.ct_machine.proofs.laws.entries_draw.Goals as goal
 
 pub returns : goal.returns

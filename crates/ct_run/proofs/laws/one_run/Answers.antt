@@ -1,4 +1,4 @@
-use Rattle.ct_run.proofs.OneReading.{one_run}
+use Rattle.ct_run.proofs.Runs.{one_run}
 use Rattle.ct_run.proofs.laws.one_run.Goals as goal
 
 pub returns : goal.returns

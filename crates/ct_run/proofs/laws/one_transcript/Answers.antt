@@ -1,4 +1,4 @@
-use Rattle.ct_run.proofs.OneReading.{one_transcript}
+use Rattle.ct_run.proofs.Runs.{one_transcript}
 use Rattle.ct_run.proofs.laws.one_transcript.Goals as goal
 
 pub returns : goal.returns

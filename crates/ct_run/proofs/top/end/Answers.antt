@@ -1,24 +1,17 @@
 use Rattle.std.proofs.Common.{List, String, Global, IsTrue, arith}
 use Rattle.ct_run.specs.declared.status.Status.{Status}
-use Rattle.ct_run.specs.declared.status.Status.TheVariants.{Done, Usage, BadScript, ReadFault, WriteFault, DiskFault, Foreign, Memory, TooLarge}
+use Rattle.ct_run.specs.declared.status.Status.TheVariants.{Usage}
 use Rattle.ct_run.specs.Top.{IsRun, SourceChange, SinkChange, DiskChange, Runs, Ends}
 use Rattle.ct_run.proofs.top.end.Goals as goal
 
 -- a run of the word `run` is what a call with it is
 ran : (status : Status) (words : List (String Global)) (source : SourceChange) (sink : SinkChange) (disk : DiskChange)
     → IsRun words → Runs status source sink disk → Ends status words source sink disk
-ran Done words source sink disk is runs = (is, runs)
 ran Usage words source sink disk is runs = absurd runs
-ran BadScript words source sink disk is runs = (is, runs)
-ran ReadFault words source sink disk is runs = (is, runs)
-ran WriteFault words source sink disk is runs = (is, runs)
-ran DiskFault words source sink disk is runs = (is, runs)
-ran Foreign words source sink disk is runs = (is, runs)
-ran Memory words source sink disk is runs = (is, runs)
-ran TooLarge words source sink disk is runs = (is, runs)
+ran status words source sink disk is runs = (is, runs)
 
-pub returns-then-is_run : goal.returns-then-is_run
-returns-then-is_run g c = λ disk.
+pub returns-then-is_run-clause-ends : goal.returns-then-is_run-clause-ends
+returns-then-is_run-clause-ends g c = λ disk.
     let told : IsTrue c.is_run.result = grind (arith, c.if-is_run.true) in
     let source : SourceChange = record {
       before = g.S.Source.left c.args.source.now;
@@ -32,4 +25,4 @@ returns-then-is_run g c = λ disk.
       faults_before = g.K.Sink.faults c.args.sink.now;
       faults_now = g.K.Sink.faults c.run.new.sink;
     } in
-    ran c.run.result c.args.words.now source sink disk (c.is_run.ensures.0 told) (c.run.ensures disk)
+    ran c.run.result.0 c.args.words.now source sink disk (c.is_run.ensures.0 told) (c.run.ensures.runs disk)

@@ -1,14 +1,11 @@
-use Rattle.std.proofs.Common.{sym, subst}
-use Rattle.ct_core.specs.Numbers.{AreKeptUpTo}
-use Rattle.ct_core.specs.Stands.{Held}
-use Rattle.ct_core.proofs.Versions.{version-apply, kept-apply}
+use Rattle.std.proofs.Common.{◌≡◌, true, refl}
+use Rattle.ct_machine.specs.Step.{entry_of, has_room}
+use Rattle.ct_core.proofs.Ranges.{in_range, machine_at}
 use Rattle.ct_core.proofs.core_state.Core.commit.Goals as goal
 
-pub returns-clause-version : goal.returns-clause-version
-returns-clause-version c = rw (c.in_ok-apply.ensures.ok, version-apply, ← c.self.view_is) c.entry-entry.ensures.most
-
-pub returns-clause-kept : goal.returns-clause-kept
-returns-clause-kept c =
-    let P : Held → Type 0 = λ held. AreKeptUpTo held.db.version held.db.kept in
-    let kept = subst P (sym c.self.view_is) c.requires.kept in
-    rw (c.in_ok-apply.ensures.ok, version-apply) (kept-apply c.self.inside.db _ c.entry-entry.ensures.least kept)
+pub invariant_of-self-2 : goal.invariant_of-self-2
+invariant_of-self-2 g c =
+    let core = c.self.inside in
+    let is : c.entry-entry.result ≡ entry_of (machine_at core.db core.now core.next) c.args.act = c.entry-entry.ensures (machine_at core.db core.now core.next) refl refl refl in
+    let room : has_room c.entry-entry.result ≡ true = (cc c.if-not-has_room.ensures) in
+    rw (c.in_ok-apply.ensures.ok, c.number_after-self-inside.ensures, c.has_number-numbered.ensures) (in_range core.db core.now core.next c.args.act c.entry-entry.result c.self.invariant c.requires is room)

@@ -1,0 +1,113 @@
+-- What a statement reads of a database: the catalogue in which names are bound, what the functions of expressions may ask for,
+-- and the rows of the sources of a SELECT. The columns of CHANGETABLE(CHANGES ..) are those of
+-- https://learn.microsoft.com/sql/relational-databases/system-functions/changetable-transact-sql.
+use Rattle.std.specs.Prelude.{ℕ, ℤ, codes, List, [], ◌∷◌, map, Option, None, Some, Ok, Err}
+use Rattle.std.specs.Option.{option_map}
+use Rattle.ct_types.specs.declared.bound.BoundExpr.{BoundExpr}
+use Rattle.ct_types.specs.declared.bound.BoundSelect.{BoundSelect}
+use Rattle.ct_types.specs.declared.bound.BoundSource.{BoundSource}
+use Rattle.ct_types.specs.declared.bound.BoundSource.TheVariants as source
+use Rattle.ct_types.specs.declared.catalogue.Catalogued.{Catalogued}
+use Rattle.ct_types.specs.declared.entry.Op.{Op}
+use Rattle.ct_types.specs.declared.entry.Op.TheVariants.{Insert as inserted, Update as updated, Delete as deleted}
+use Rattle.ct_types.specs.declared.refusal.Refusal.TheVariants.{NotBuilt}
+use Rattle.ct_types.specs.declared.reply.Grid.{Grid}
+use Rattle.ct_types.specs.declared.tracked.NetRow.{NetRow}
+use Rattle.ct_types.specs.declared.tracked.VersionRow.{VersionRow}
+use Rattle.ct_types.specs.declared.value.Key.{Key}
+use Rattle.ct_types.specs.declared.value.Row.{Row}
+use Rattle.ct_types.specs.declared.value.Value.{Value}
+use Rattle.ct_types.specs.declared.value.Value.TheVariants.{Null, Int, Text, Bytes}
+use Rattle.ct_mask.specs.Masks.{bytes_of}
+use Rattle.ct_model.specs.declared.db.Db.{Db}
+use Rattle.ct_model.specs.declared.db.Table.{Table}
+use Rattle.ct_model.specs.Net.{net}
+use Rattle.ct_model.specs.Tables.{catalogued, table_of}
+use Rattle.ct_model.specs.Versions.{current}
+use Rattle.ct_expr.specs.declared.env.Env.{Env}
+use Rattle.ct_expr.specs.Functions.{counted, counted_or_null, bytes_or_null}
+use Rattle.ct_expr.specs.Meaning.{World, on, value}
+use Rattle.ct_types.specs.Answers.{Answer, ◌>>=◌}
+use Rattle.ct_query.specs.Answer.{answer}
+
+-- ---- names
+
+-- the tables, as names find them
+abbrev pub catalogue : Db → List Catalogued
+catalogue db = map catalogued db.tables
+
+-- ---- expressions
+
+-- the least version that a client of a table may hold, none where the table is not tracked
+abbrev pub minimum_of : Table → Option ℕ
+minimum_of table = option_map (λ tracked. tracked.min) table.tracked
+
+-- what expressions may ask for beside their row; there are no variables yet
+abbrev pub env_of : Db → Env
+env_of db = record {
+  variables = record { 0 = [] };
+  current = current db;
+  minima = map minimum_of db.tables;
+  names = map (λ table. table.schema) db.tables;
+}
+
+-- CHANGETABLE(VERSION ..) is not built, so nothing asks for its rows
+abbrev pub no_version : ℕ → Key → VersionRow
+no_version table key = record { version = None; context = None }
+
+-- beside their row, expressions read this
+abbrev pub world_of : Db → World
+world_of db = record { env = env_of db; versions = no_version }
+
+-- ---- the rows of CHANGETABLE(CHANGES ..)
+
+-- the letter of an operation
+abbrev pub op_name : Op → List ℕ
+op_name inserted = codes "I"
+op_name updated = codes "U"
+op_name deleted = codes "D"
+
+-- SYS_CHANGE_VERSION, SYS_CHANGE_CREATION_VERSION, SYS_CHANGE_OPERATION, SYS_CHANGE_COLUMNS, SYS_CHANGE_CONTEXT, and
+-- the key
+abbrev pub shown : NetRow → Row
+shown row = record {
+  0 = counted row.version ∷ counted_or_null row.creation ∷ Text (op_name row.op) ∷ bytes_or_null (option_map bytes_of row.mask) ∷ bytes_or_null row.context ∷ row.key.0;
+}
+
+-- the version that the second argument gives; NULL gives none
+abbrev pub since_of : Value → Option ℤ
+since_of Null = None
+since_of (Int n) = Some n
+since_of (Text t) = None
+since_of (Bytes b) = None
+
+-- the argument is evaluated on no row, since it names no column
+abbrev pub changes_rows : Db → ℕ → BoundExpr → Answer (List Row)
+changes_rows db id since = value (on (world_of db) (record { 0 = [] })) since >>= (λ last. Ok (map shown (net db id (since_of last))))
+
+-- ---- the rows of sources
+
+-- a table that is not there has no rows
+abbrev pub rows_of : Option Table → List Row
+rows_of None = []
+rows_of (Some table) = table.rows
+
+-- a table's rows in key order, or one row for each net change; the other sources are not built
+abbrev pub source_rows : Db → BoundSource → Answer (List Row)
+source_rows db (source.Table id) = Ok (rows_of (table_of db.tables id))
+source_rows db (source.Changes id since) = changes_rows db id since
+source_rows db (source.Version version) = Err NotBuilt
+source_rows db source.CommitTable = Err NotBuilt
+source_rows db source.TrackingTables = Err NotBuilt
+
+-- of a source that is not there, none
+abbrev pub optional_rows : Db → Option BoundSource → Answer (List Row)
+optional_rows db None = Ok []
+optional_rows db (Some source) = source_rows db source
+
+-- ---- SELECT
+
+-- the rows of the left source, then those of the right one, and what the query answers over them
+abbrev pub selected : Db → BoundSelect → Answer Grid
+selected db query =
+    optional_rows db query.left >>= (λ left. optional_rows db query.right >>= (λ right. answer (world_of db) query.plan left right))

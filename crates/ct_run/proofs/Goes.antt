@@ -1,0 +1,166 @@
+-- How a play goes on, from one statement and one phase to the next.
+use Rattle.std.proofs.Common.{◌≡◌, ℕ, ◌+◌, ◌<◌, List, [], ◌∷◌, ◌++◌, length, get_or, take, sum_by, refl, sym, ap, subst, ◌∙◌, append_assoc, append-nil, arith}
+use Rattle.std.specs.List.{flat_map}
+use Rattle.std.proofs.lemmas.Grind.{common_steps, flat_map-append}
+use Rattle.std.proofs.lemmas.List.{take_more}
+use Rattle.std.proofs.lemmas.List.Concat.{length-flat_map}
+use Rattle.std.proofs.lemmas.List.Sums.{sum_by_push}
+use Rattle.ct_model.specs.Apply.{no_db}
+use Rattle.ct_core.specs.Stands.{CoreState, Stands}
+use Rattle.ct_machine.specs.declared.command.Journaled.{Journaled}
+use Rattle.ct_machine.specs.Machine.{Machine, opening}
+use Rattle.ct_machine.specs.Play.{Follows, IsPlay, end_of}
+use Rattle.ct_machine.specs.Play as play
+use Rattle.ct_script.specs.declared.script.Lane.{Lane}
+use Rattle.ct_script.specs.declared.script.Phase.{Phase}
+use Rattle.ct_script.specs.Size.{lane_size, phase_size}
+use Rattle.ct_run.specs.Schedule.{Numbered, numbered_from, numbered_in_lane, numbered_in, IsOf, IsInOrder, AreInOrder}
+use Rattle.ct_run.specs.Steps.{Goes}
+use Rattle.ct_run.specs.Top.{all_of}
+
+-- ---- plays and journals, one behind the other
+
+IsPlay-append : (m : Machine) (journal more : List Journaled) → IsPlay m journal → IsPlay (end_of m journal) more → IsPlay m (journal ++ more)
+IsPlay-append m [] more here there = there
+IsPlay-append m (one ∷ journal) more here there = (here.0, IsPlay-append (play.after m one.what one.reply) journal more here.1 there)
+
+end_of-append : (m : Machine) (journal more : List Journaled) → end_of m (journal ++ more) ≡ end_of (end_of m journal) more
+end_of-append m [] more = refl
+end_of-append m (one ∷ journal) more = end_of-append (play.after m one.what one.reply) journal more
+
+IsInOrder-append : (statements others : List Numbered) (journal more : List Journaled) → IsInOrder statements journal → IsInOrder others more → IsInOrder (statements ++ others) (journal ++ more)
+IsInOrder-append [] others [] more here there = there
+IsInOrder-append [] others (one ∷ journal) more here there = absurd here
+IsInOrder-append (statement ∷ statements) others [] more here there = absurd here
+IsInOrder-append (statement ∷ statements) others (one ∷ journal) more here there = (here.0, IsInOrder-append statements others journal more here.1 there)
+
+pub length-in_order : (statements : List Numbered) (journal : List Journaled) → IsInOrder statements journal → length journal ≡ length statements
+length-in_order [] [] in_order = refl
+length-in_order [] (one ∷ journal) in_order = absurd in_order
+length-in_order (statement ∷ statements) [] in_order = absurd in_order
+length-in_order (statement ∷ statements) (one ∷ journal) in_order = let rest = length-in_order statements journal in_order.1 in omega arith
+
+AreInOrder-push : (phases : List Phase) (phase : Phase) (journals : List (List Journaled)) (journal : List Journaled) → AreInOrder phases journals → IsInOrder (numbered_in phase) journal
+    → AreInOrder (phases ++ phase ∷ []) (journals ++ journal ∷ [])
+AreInOrder-push [] phase [] journal here there = (there, tt)
+AreInOrder-push [] phase (one ∷ journals) journal here there = absurd here
+AreInOrder-push (first ∷ phases) phase [] journal here there = absurd here
+AreInOrder-push (first ∷ phases) phase (one ∷ journals) journal here there = (here.0, AreInOrder-push phases phase journals journal here.1 there)
+
+all_of-push : (journals : List (List Journaled)) (journal : List Journaled) → all_of (journals ++ journal ∷ []) ≡ all_of journals ++ journal
+all_of-push journals journal = flat_map-append (λ j. j) journals (journal ∷ []) ∙ ap (λ l. all_of journals ++ l) (append-nil journal)
+
+-- ---- statements
+
+numbered_from-push : (session number : ℕ) (texts : List (List ℕ)) (text : List ℕ)
+    → numbered_from session number (texts ++ text ∷ []) ≡ numbered_from session number texts ++ record { session = session; number = number + length texts; text = text } ∷ []
+numbered_from-push session number [] text =
+    let same : number ≡ number + 0 = omega arith in
+    ap (λ n. record { session = session; number = n; text = text } ∷ []) same
+numbered_from-push session number (first ∷ texts) text =
+    let same : (number + 1) + length texts ≡ number + length (first ∷ texts) = omega arith in
+    ap (λ l. record { session = session; number = number; text = first } ∷ l)
+    (numbered_from-push session (number + 1) texts text ∙ ap (λ n. numbered_from session (number + 1) texts ++ record { session = session; number = n; text = text } ∷ []) same)
+
+-- one text more of a lane
+pub numbered_more : (lane : Lane) (i : ℕ) (text : List ℕ) → i < length lane.statements → text ≡ get_or lane.statements i text
+    → numbered_from lane.session lane.first (take (i + 1) lane.statements)
+    ≡ numbered_from lane.session lane.first (take i lane.statements) ++ record { session = lane.session; number = lane.first + i; text = text } ∷ []
+numbered_more lane i text inside is =
+    let count : length (take i lane.statements) ≡ i = grind (arith, common_steps) in
+    ap (numbered_from lane.session lane.first) (take_more lane.statements i text inside ∙ ap (λ t. take i lane.statements ++ t ∷ []) (sym is))
+    ∙ numbered_from-push lane.session lane.first (take i lane.statements) text
+    ∙ ap (λ n. numbered_from lane.session lane.first (take i lane.statements) ++ record { session = lane.session; number = lane.first + n; text = text } ∷ []) count
+
+-- one lane more of a phase
+pub lanes_more : (lanes : List Lane) (i : ℕ) (lane : Lane) → i < length lanes → lane ≡ get_or lanes i lane
+    → flat_map numbered_in_lane (take (i + 1) lanes) ≡ flat_map numbered_in_lane (take i lanes) ++ numbered_in_lane lane
+lanes_more lanes i lane inside is =
+    ap (flat_map numbered_in_lane) (take_more lanes i lane inside ∙ ap (λ l. take i lanes ++ l ∷ []) (sym is))
+    ∙ flat_map-append numbered_in_lane (take i lanes) (lane ∷ [])
+    ∙ ap (λ l. flat_map numbered_in_lane (take i lanes) ++ l) (append-nil (numbered_in_lane lane))
+
+length-numbered : (session number : ℕ) (texts : List (List ℕ)) → length (numbered_from session number texts) ≡ length texts
+length-numbered session number [] = refl
+length-numbered session number (text ∷ texts) = let rest = length-numbered session (number + 1) texts in omega arith
+
+length-numbered_in : (phase : Phase) → length (numbered_in phase) ≡ phase_size phase
+length-numbered_in phase = length-flat_map numbered_in_lane phase.sessions ∙ same phase.sessions
+  where
+    same : (lanes : List Lane) → sum_by (λ lane. length (numbered_in_lane lane)) lanes ≡ sum_by lane_size lanes
+    same lanes = ap (λ (f : Lane → ℕ). sum_by f lanes) (λ i lane. length-numbered lane.session lane.first lane.statements i)
+
+-- ---- steps
+
+module _ {D : Type 0} where
+  pub goes_none : (journal : List Journaled) (core : CoreState D) → Goes [] journal journal core core
+  goes_none journal core = record { own = []; added = sym (append-nil journal); in_order = tt; plays = λ m stands. (tt, stands) }
+
+  goes_one : (statement : Numbered) (old new : List Journaled) (one : Journaled) (before after : CoreState D) → new ≡ old ++ one ∷ [] → IsOf statement one
+      → ((m : Machine) → Stands before m → Follows m one.what one.reply) → ((m : Machine) → Stands before m → Stands after (play.after m one.what one.reply))
+      → Goes (statement ∷ []) old new before after
+  goes_one statement old new one before after added is follows stands =
+      record { own = one ∷ []; added = added; in_order = (is, tt); plays = λ m s. ((follows m s, tt), stands m s) }
+
+  pub goes_on : (statements others : List Numbered) (old mid new : List Journaled) (before between after : CoreState D)
+      → Goes statements old mid before between → Goes others mid new between after → Goes (statements ++ others) old new before after
+  goes_on statements others old mid new before between after here there = record {
+    own = here.own ++ there.own;
+    added = there.added ∙ ap (λ l. l ++ there.own) here.added ∙ append_assoc old here.own there.own;
+    in_order = IsInOrder-append statements others here.own there.own here.in_order there.in_order;
+    plays = λ m s.
+        let first = here.plays m s in
+        let second = there.plays (end_of m here.own) first.1 in
+        (IsPlay-append m here.own there.own first.0 second.0, subst (Stands after) (sym (end_of-append m here.own there.own)) second.1);
+  }
+
+  -- a lane goes on by one statement
+  pub goes_statement : (lane : Lane) (i : ℕ) (text : List ℕ) (old mid new : List Journaled) (one : Journaled) (before between after : CoreState D)
+      → i < length lane.statements → text ≡ get_or lane.statements i text
+      → Goes (numbered_from lane.session lane.first (take i lane.statements)) old mid before between
+      → new ≡ mid ++ one ∷ [] → IsOf (record { session = lane.session; number = lane.first + i; text = text }) one
+      → ((m : Machine) → Stands between m → Follows m one.what one.reply) → ((m : Machine) → Stands between m → Stands after (play.after m one.what one.reply))
+      → Goes (numbered_from lane.session lane.first (take (i + 1) lane.statements)) old new before after
+  goes_statement lane i text old mid new one before between after inside is goes added of follows stands =
+      subst (λ statements. Goes statements old new before after) (sym (numbered_more lane i text inside is))
+      (goes_on _ _ old mid new before between after goes (goes_one _ mid new one between after added of follows stands))
+
+  -- a phase goes on by one lane
+  pub goes_lane : (lanes : List Lane) (i : ℕ) (lane : Lane) (old mid new : List Journaled) (before between after : CoreState D)
+      → i < length lanes → lane ≡ get_or lanes i lane → Goes (flat_map numbered_in_lane (take i lanes)) old mid before between → Goes (numbered_in_lane lane) mid new between after
+      → Goes (flat_map numbered_in_lane (take (i + 1) lanes)) old new before after
+  goes_lane lanes i lane old mid new before between after inside is here there =
+      subst (λ statements. Goes statements old new before after) (sym (lanes_more lanes i lane inside is)) (goes_on _ _ old mid new before between after here there)
+
+  -- ---- phases
+
+  -- the journals of phases, from the opening of the empty database, and the core that stands after them
+  pub record HasPlayed (phases : List Phase) (journals : List (List Journaled)) (core : CoreState D) : Type 0 where
+    pub in_order : AreInOrder phases journals
+    pub is_play : IsPlay (opening no_db) (all_of journals)
+    pub stands : Stands core (end_of (opening no_db) (all_of journals))
+    pub count : sum_by length journals ≡ sum_by phase_size phases
+
+  played_push : (phases : List Phase) (phase : Phase) (journals : List (List Journaled)) (journal : List Journaled) (between after : CoreState D)
+      → HasPlayed phases journals between → Goes (numbered_in phase) [] journal between after → HasPlayed (phases ++ phase ∷ []) (journals ++ journal ∷ []) after
+  played_push phases phase journals journal between after played goes =
+      let m : Machine = end_of (opening no_db) (all_of journals) in
+      let own : goes.own ≡ journal = sym goes.added in
+      let in_order : IsInOrder (numbered_in phase) journal = subst (IsInOrder (numbered_in phase)) own goes.in_order in
+      let plays = subst (λ j. IsPlay m j × Stands after (end_of m j)) own (goes.plays m played.stands) in
+      let whole = all_of-push journals journal in
+      let size : length journal ≡ phase_size phase = length-in_order (numbered_in phase) journal in_order ∙ length-numbered_in phase in
+      record {
+        in_order = AreInOrder-push phases phase journals journal played.in_order in_order;
+        is_play = subst (IsPlay (opening no_db)) (sym whole) (IsPlay-append (opening no_db) (all_of journals) journal played.is_play plays.0);
+        stands = subst (λ j. Stands after (end_of (opening no_db) j)) (sym whole) (subst (Stands after) (sym (end_of-append (opening no_db) (all_of journals) journal)) plays.1);
+        count = sum_by_push length journals journal ∙ ap (λ n. n + length journal) played.count ∙ ap (λ n. sum_by phase_size phases + n) size ∙ sym (sum_by_push phase_size phases phase);
+      }
+
+  pub played_more : (phases : List Phase) (i : ℕ) (phase : Phase) (journals made : List (List Journaled)) (journal : List Journaled) (between after : CoreState D)
+      → i < length phases → phase ≡ get_or phases i phase → made ≡ journals ++ journal ∷ []
+      → HasPlayed (take i phases) journals between → Goes (numbered_in phase) [] journal between after → HasPlayed (take (i + 1) phases) made after
+  played_more phases i phase journals made journal between after inside is pushed played goes =
+      let more = take_more phases i phase inside ∙ ap (λ p. take i phases ++ p ∷ []) (sym is) in
+      subst (λ ps. HasPlayed ps made after) (sym more)
+      (subst (λ js. HasPlayed (take i phases ++ phase ∷ []) js after) (sym pushed) (played_push (take i phases) phase journals journal between after played goes))

@@ -1,0 +1,24 @@
+-- How a play goes on through some statements, and what comes of a script, as the code does it. No promise speaks of them.
+use Rattle.std.specs.Prelude.{◌≡◌, List, ◌++◌, ◌⊎◌}
+use Rattle.std.specs.Io.KnownBytes.{Keeps}
+use Rattle.ct_machine.specs.declared.command.Journaled.{Journaled}
+use Rattle.ct_machine.specs.Machine.{Machine}
+use Rattle.ct_machine.specs.Play.{IsPlay, end_of}
+use Rattle.ct_core.specs.Stands.{CoreState, Stands}
+use Rattle.ct_script.specs.declared.script.Script.{Script}
+use Rattle.ct_run.specs.Schedule.{Numbered, IsInOrder}
+use Rattle.ct_run.specs.Top.{SinkChange, PlaysScript}
+use Rattle.ct_run.specs.declared.status.Status.{Status}
+use Rattle.ct_run.specs.declared.status.Status.TheVariants.{Memory}
+
+-- the journal has these statements behind what it had, each reply follows, and the core stands for the machine after them
+pub record Goes {D : Type 0} (statements : List Numbered) (old new : List Journaled) (before after : CoreState D) : Type 0 where
+  pub own : List Journaled
+  pub added : new ≡ old ++ own
+  pub in_order : IsInOrder statements own
+  pub plays : (m : Machine) → Stands before m → IsPlay m own × Stands after (end_of m own)
+
+-- what comes of a script: a run that was written, or, where memory was wanting, maybe nothing at all
+abbrev pub Performs : Status → SinkChange → Script → Type 0
+Performs Memory sink script = Keeps sink.before sink.now ⊎ PlaysScript Memory sink script
+Performs other sink script = PlaysScript other sink script
