@@ -28,7 +28,7 @@ use Rattle.ct_bind_expr.specs.Places.{of_kind, any_value, named, named_of, only,
 use Rattle.ct_bind_expr.specs.Versions as versions
 use Rattle.ct_bind_expr.specs.Versions.{Walk, operand, values, tuple, listed_kind, listed_kinds, kind_of_column, missing, none_missing, version_of, key_column_from, version_column}
 use Rattle.ct_bind_expr.specs.Walk as expr
-use Rattle.ct_bind_expr.specs.Walk.{TermWalk, VersionWalk, two, both_of_kind, chain, further_term, sum}
+use Rattle.ct_bind_expr.specs.Walk.{TermWalk, two, both_of_kind, chain, further_term, sum}
 use Rattle.ct_bind.proofs.Within.{Within, ok_within, err_within, then_within, demand_within, cond_within, or_within, each_after_within}
 
 -- ---- numbers and look-ups

@@ -1,5 +1,5 @@
 -- An answer whose value, if it is one, has a property, and the steps that keep it so.
-use Rattle.std.proofs.Common.{◌≡◌, ℕ, Bool, true, false, Option, Some, None, Ok, Err, refl, subst}
+use Rattle.std.proofs.Common.{◌≡◌, Bool, true, false, Option, Some, None, Ok, Err, refl, subst}
 use Rattle.ct_types.specs.declared.refusal.Refusal.{Refusal}
 use Rattle.ct_types.specs.Answers.{Answer, ◌>>=◌, ◌>>◌, demand, or_refuse}
 

@@ -1,10 +1,9 @@
 -- What is bound keeps the limits of a table's columns, where all tables do.
-use Rattle.std.proofs.Common.{◌≡◌, ◌==◌, ℕ, ◌+◌, ◌<◌, ◌≤◌, nat_le, nat_lt, Bool, true, false, not, List, [], ◌∷◌, ◌++◌, length, map, Option, Some, None, is_some, Result, Ok, Err, IfOk, refl, subst, ap, cond, find, arith, leb-true}
-use Rattle.std.specs.List.{All, AllByRecursion}
+use Rattle.std.proofs.Common.{◌≡◌, ◌==◌, ℕ, ◌+◌, ◌<◌, ◌≤◌, nat_le, nat_lt, Bool, true, false, not, List, [], ◌∷◌, ◌++◌, length, map, Option, Some, None, is_some, Ok, Err, IfOk, refl, subst, cond, find, arith, leb-true}
+use Rattle.std.specs.List.{AllByRecursion}
 use Rattle.std.proofs.lemmas.List.Elements.{All-from_recursion}
 use Rattle.ct_types.specs.declared.bound.Bound.{Bound}
 use Rattle.ct_types.specs.declared.bound.BoundSet.{BoundSet}
-use Rattle.ct_types.specs.declared.bound.RowChange.{RowChange}
 use Rattle.ct_types.specs.declared.catalogue.Catalogued.{Catalogued}
 use Rattle.ct_types.specs.declared.catalogue.Variable.{Variable}
 use Rattle.ct_types.specs.declared.expr.Expr.{Expr}
@@ -41,7 +40,7 @@ use Rattle.ct_types.specs.declared.stmt.WriteStmt.{WriteStmt}
 use Rattle.ct_types.specs.declared.stmt.WriteStmt.TheVariants as write
 use Rattle.ct_names.specs.Numbers.{column_type}
 use Rattle.ct_bind.specs.Writes.{target, target_from, table_target, is_set, is_key, set_target, set_of, update_change, updated_name, row_named, context_of, update, insert, insert_change, insert_targets, tuple_of, delete, delete_change, write_of}
-use Rattle.ct_bind.proofs.Kept.{Kept, ok_kept, err_kept, then_kept, after_kept, demand_kept, or_kept}
+use Rattle.ct_bind.proofs.Kept.{Kept, ok_kept, err_kept, then_kept, after_kept, or_kept}
 
 abbrev Narrow : ℕ → Type 0
 Narrow id = (0 < id) × (id ≤ 64)

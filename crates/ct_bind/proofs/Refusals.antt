@@ -41,7 +41,7 @@ use Rattle.ct_bind.specs.declared.writes.Target.{Target}
 use Rattle.ct_bind.specs.Sources.{source_name, unique, system_sourced, plain_sourced, table_by, table_source, condition, changes_source, version_source, one_source, joined_on, applied, joined_with, joined_by, joined}
 use Rattle.ct_bind.specs.Queries.{is_empty, columns_of, one_item, bound_item, items_of, order_by, order_place, parts_of, from_of, select}
 use Rattle.ct_bind.specs.Writes as writes
-use Rattle.ct_bind.specs.Writes.{is_set, is_key, table_target, listed_target, insert_targets, targets_by, set_target, updated_by, updated_name, row_named, context_of, tuple_of, insert_change, set_of, update_change, delete_change, write_of}
+use Rattle.ct_bind.specs.Writes.{is_set, is_key, table_target, listed_target, insert_targets, set_target, updated_name, context_of, tuple_of, insert_change, set_of, update_change, delete_change, write_of}
 use Rattle.ct_bind.specs.Binding.{truncate, value_of, set_variable, declare, kind_of_name, binding, binding_by}
 use Rattle.ct_bind.specs.Laws.{RefusesOnlyItsOwn}
 use Rattle.ct_bind.proofs.Within.{Within, ok_within, err_within, then_within, demand_within, cond_within, or_within, optional_within, each_within, each_after_within}

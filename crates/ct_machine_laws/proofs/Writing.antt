@@ -1,6 +1,5 @@
 -- INSERT, UPDATE and DELETE commit acts that apply, where binding keeps its promise and the rows fit.
-use Rattle.std.proofs.Common.{◌≡◌, ◌<◌, ℕ, Bool, true, false, List, [], ◌∷◌, length, Option, Some, None, Ok, Err, refl, sym, ap, subst, ◌∙◌, arith}
-use Rattle.std.specs.List.{AllByRecursion, list_any}
+use Rattle.std.proofs.Common.{◌≡◌, ◌<◌, ℕ, List, [], ◌∷◌, length, Option, Some, None, Ok, Err, refl, ap, subst, ◌∙◌, arith}
 use Rattle.std.specs.Option.{IsSomeAnd}
 use Rattle.ct_types.specs.declared.bound.Bound.{Bound}
 use Rattle.ct_types.specs.declared.bound.Bound.TheVariants.{Write as Writes}
@@ -22,13 +21,12 @@ use Rattle.ct_bind.specs.Writes as binds
 use Rattle.ct_write.specs.Duplicates.{duplicate}
 use Rattle.ct_write.specs.Writes.{writes_of}
 use Rattle.ct_write.proofs.Statements.{are_accepted}
-use Rattle.ct_machine.specs.declared.decision.Decision.TheVariants.{Refuses, Answers, Commits}
+use Rattle.ct_machine.specs.declared.decision.Decision.TheVariants.{Commits}
 use Rattle.ct_machine.specs.Decide.{counted, decide_bound, fitted, without_duplicates, written}
-use Rattle.ct_machine.specs.Machine.{Machine, db_of}
+use Rattle.ct_machine.specs.Machine.{db_of}
 use Rattle.ct_machine.specs.Reads.{catalogue, world_of}
 use Rattle.ct_machine.specs.Step.{act_draws, entry_of}
 use Rattle.ct_machine_laws.specs.Laws.{IsAccepted, WritesCommitWell}
-use Rattle.ct_machine_laws.specs.Sound.{IsSound}
 use Rattle.ct_machine_laws.proofs.Committing.{was_bound}
 use Rattle.ct_machine_laws.proofs.Soundness.{sound_is_valid}
 

@@ -5,7 +5,7 @@ use Rattle.std.specs.Option.{option_map}
 use Rattle.std.proofs.lemmas.Option.{slice_get-map}
 use Rattle.ct_types.specs.declared.bound.BoundExpr.{BoundExpr, roll-BoundExpr, map-BoundExpr}
 use Rattle.ct_types.specs.declared.bound.BoundExpr.TheOpen as e
-use Rattle.ct_types.specs.declared.bound.BoundExpr.TheOpen.{BoundExpr-F, BoundTerm-F, BoundScalar-F, BoundRowVersion-F}
+use Rattle.ct_types.specs.declared.bound.BoundExpr.TheOpen.{BoundExpr-F, BoundScalar-F, BoundRowVersion-F}
 use Rattle.ct_types.specs.declared.bound.BoundExpr.TheFolds.{map-BoundRowVersion, map-BoundScalar, fold-BoundScalar, fold-BoundTerm, fold-roll-BoundExpr, fold-roll-BoundRowVersion, fold-roll-BoundScalar, ind-BoundExpr}
 use Rattle.ct_types.specs.declared.bound.BoundRowVersion.{BoundRowVersion, roll-BoundRowVersion}
 use Rattle.ct_types.specs.declared.bound.BoundScalar.{BoundScalar, roll-BoundScalar}

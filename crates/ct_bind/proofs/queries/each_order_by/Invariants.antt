@@ -1,4 +1,4 @@
-use Rattle.std.proofs.Common.{◌≡◌, ◌+◌, [], ◌++◌, map, filter, take, drop}
+use Rattle.std.proofs.Common.{◌≡◌, drop}
 use Rattle.ct_types.specs.Answers.{onto, each}
 use Rattle.ct_bind.specs.Queries.{order_by}
 use Rattle.ct_bind.proofs.queries.each_order_by.Given as goal

@@ -1,4 +1,4 @@
-use Rattle.std.proofs.Common.{◌≡◌, ◌+◌, [], ◌++◌, map, filter, take, drop}
+use Rattle.std.proofs.Common.{◌≡◌, drop}
 use Rattle.ct_bind.specs.Queries.{columns_of}
 use Rattle.ct_bind.proofs.queries.push_source.Given as goal
 

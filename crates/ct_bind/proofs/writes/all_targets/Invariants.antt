@@ -1,4 +1,4 @@
-use Rattle.std.proofs.Common.{◌≡◌, ◌+◌, [], ◌++◌, map, filter, take, drop}
+use Rattle.std.proofs.Common.{◌≡◌, ◌+◌, ◌++◌, drop}
 use Rattle.ct_bind.specs.Writes.{targets_from}
 use Rattle.ct_bind.proofs.writes.all_targets.Given as goal
 

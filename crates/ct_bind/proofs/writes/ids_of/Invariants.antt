@@ -1,4 +1,4 @@
-use Rattle.std.proofs.Common.{◌≡◌, ◌+◌, [], ◌++◌, map, filter, take, drop}
+use Rattle.std.proofs.Common.{◌≡◌, map, take}
 use Rattle.ct_bind.proofs.writes.ids_of.Given as goal
 
 abbrev pub invariant-loop-target : goal.invariant-loop-target

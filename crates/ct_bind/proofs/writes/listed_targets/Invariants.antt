@@ -1,4 +1,4 @@
-use Rattle.std.proofs.Common.{◌≡◌, ◌+◌, [], ◌++◌, map, filter, take, drop}
+use Rattle.std.proofs.Common.{◌≡◌, [], take, drop}
 use Rattle.ct_types.specs.Answers.{onto, each_after}
 use Rattle.ct_bind.specs.Writes.{listed_target}
 use Rattle.ct_bind.proofs.writes.listed_targets.Given as goal

@@ -1,4 +1,4 @@
-use Rattle.std.proofs.Common.{◌≡◌, ◌+◌, [], ◌++◌, map, filter, take, drop}
+use Rattle.std.proofs.Common.{◌≡◌, [], take, drop}
 use Rattle.ct_types.specs.Answers.{onto, each_after}
 use Rattle.ct_bind.specs.Writes.{set_of}
 use Rattle.ct_bind.proofs.writes.sets_of.Given as goal

@@ -1,4 +1,4 @@
-use Rattle.std.proofs.Common.{◌≡◌, ◌+◌, [], ◌++◌, map, filter, take, drop}
+use Rattle.std.proofs.Common.{◌≡◌, drop}
 use Rattle.ct_types.specs.Answers.{onto, each}
 use Rattle.ct_bind.specs.Writes.{tuple_of}
 use Rattle.ct_bind.proofs.writes.tuples_of.Given as goal
