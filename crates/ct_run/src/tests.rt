@@ -318,6 +318,37 @@ fn a_text_has_at_most_65536_bytes(rt: HostRuntime) -> Result<(), Fail> {
     Ok(())
 }
 
+/// Adds the definitions of 16 tables, whose names begin with this letter.
+fn define_16(script: &mut Vec<u8>, first: u8) -> Result<(), AllocError> {
+    for second in b"abcdefghijklmnop" {
+        script.extend_from_slice(b"1: CREATE TABLE ")?;
+        script.push(first)?;
+        script.push(*second)?;
+        script.extend_from_slice(b" (id INT PRIMARY KEY)\n")?;
+    }
+    Ok(())
+}
+
+/// A script that defines 256 tables, and then a table more.
+fn define_257(alloc: Global) -> Result<Vec<u8>, AllocError> {
+    let mut script = Vec::new(alloc);
+    for first in b"abcdefghijklmnop" {
+        define_16(&mut script, *first)?;
+    }
+    script.extend_from_slice(b"1: CREATE TABLE more (id INT PRIMARY KEY)\n")?;
+    Ok(script)
+}
+
+#[test]
+fn there_are_at_most_256_tables(rt: HostRuntime) -> Result<(), Fail> {
+    let script = define_257(rt.alloc())?;
+    let (status, added) = run_of(&rt, rt.alloc(), &["run"], script.as_slice())?;
+    assert_eq!(rt; status, 0);
+    let last: &[u8] = b"[256] 1.256\nOK\n[257] 1.257\nRefused TooMany 256\n";
+    assert!(rt; added.as_bytes().ends_with(last));
+    Ok(())
+}
+
 /// Whether these words are refused.
 fn is_usage<R: Threads + Wait>(rt: &R, alloc: Global, texts: &[&str]) -> Result<bool, Memory> {
     let (status, added) = run_of(rt, alloc, texts, START)?;
