@@ -1,0 +1,12 @@
+-- What the grammar promises of a tree that was read from a text.
+use Rattle.ct_types.specs.declared.stmt.Stmt.{Stmt}
+use Rattle.ct_types.specs.declared.stmt.Stmt.TheVariants as stmt
+use Rattle.ct_schema_laws.specs.Laws.{AreNames}
+use Rattle.ct_bound_kinds.specs.Laws.{SetsSome}
+
+-- CREATE TABLE names its table and its columns by names, and a SET list that is written is not empty; nothing is said of
+-- the other forms
+abbrev pub IsSpelled : Stmt → Type 0
+IsSpelled (stmt.CreateTable table columns key) = AreNames table columns
+IsSpelled (stmt.Write context write) = SetsSome write
+IsSpelled other = Unit {0}
