@@ -1,0 +1,14 @@
+pub mod Deepest
+pub mod Layers
+pub mod Given
+pub mod Operators
+pub mod Chains
+pub mod Versions
+pub mod Columns
+pub mod Walks
+pub mod Lists
+pub mod Operands
+pub mod Writing
+pub mod Sourcing
+pub mod Selecting
+pub mod Binding
