@@ -1,5 +1,5 @@
 -- The tables of a valid database are sound.
-use Rattle.std.proofs.Common.{◌≡◌, ℕ, zero, suc, ◌+◌, ◌-◌, ◌≤◌, ◌<◌, false, List, [], ◌∷◌, map, nat_eq, slice_get, Option, Some, None, refl, subst, arith}
+use Rattle.std.proofs.Common.{◌≡◌, ℕ, zero, suc, ◌+◌, ◌-◌, ◌≤◌, ◌<◌, false, List, [], ◌∷◌, length, map, nat_eq, slice_get, Option, Some, None, refl, subst, arith}
 use Rattle.std.specs.List.{AllByRecursion, IsDistinct, cons_option}
 use Rattle.std.specs.Option.{IsSome, IsSomeAnd}
 use Rattle.std.proofs.lemmas.Bool.Decides.{nat_tests}
@@ -43,6 +43,11 @@ column_there columns (suc n) least is =
     let at : suc n - 1 ≡ n = omega arith in
     some_of (slice_get columns n) (subst (λ k. IsSomeAnd (slice_get columns k) IsKeyColumn) at is)
 
+some_key : (columns : List Column) (key : List ℕ) → IsKey columns key → 0 < length key
+some_key columns [] is = absurd is
+some_key columns (id ∷ []) is = omega arith
+some_key columns (id ∷ other ∷ more) is = absurd is
+
 columns_there : (columns : List Column) (key : List ℕ) → IsKey columns key → AllByRecursion (λ id. IsSome (column_of columns id)) key
 columns_there columns [] is = absurd is
 columns_there columns (id ∷ []) is = (column_there columns id is.0 is.1, tt)
@@ -60,7 +65,7 @@ names_apart table (id ∷ []) is = one_name (column_of table.columns id)
 names_apart table (id ∷ other ∷ more) is = absurd is
 
 has_key : (table : Schema) → IsSchema table → HasKey table
-has_key table is = record { columns = columns_there table.columns table.key is.key; names = names_apart table table.key is.key }
+has_key table is = record { some = some_key table.columns table.key is.key; columns = columns_there table.columns table.key is.key; names = names_apart table table.key is.key }
 
 keys : (version : ℕ) (keep : Option Keep) (tables : List Table) → AllByRecursion (IsTableValid version keep) tables → AllByRecursion (λ table. HasKey table.schema) (map catalogued tables)
 keys version keep [] valid = tt

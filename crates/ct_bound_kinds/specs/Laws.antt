@@ -31,8 +31,9 @@ use Rattle.ct_bound_kinds.specs.Queries.{IsSelect}
 
 -- ---- tables
 
--- the columns of the key are columns of the table, and have distinct names
+-- the key has one column at least; its columns are columns of the table, and have distinct names
 pub record HasKey (table : Schema) : Type 0 where
+  pub some : 0 < length table.key
   pub columns : AllByRecursion (λ id. IsSome (column_of table.columns id)) table.key
   pub names : IsDistinct same (map (λ column. column.name) (key_columns table))
 
