@@ -64,7 +64,7 @@ module _ (tables : List Catalogued) (variables : List Variable) where
   IsChange table (Update sets filter) = IsSetList (scope_of (table_row table)) table sets × IfSome filter (IsCondition (scope_of (table_row table)))
   IsChange table (Delete filter) = IfSome filter (IsCondition (scope_of (table_row table)))
 
-  -- a change of a table that is there; the context is bytes, and names no column
+  -- a change of a table that is there; the context is bytes, or NULL, and names no column
   pub record IsWrite (write : BoundWrite) : Type 0 where
     pub table : Schema
     pub is : table_of (map (λ table. table.schema) tables) write.table ≡ Some table
