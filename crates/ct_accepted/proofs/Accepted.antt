@@ -139,7 +139,7 @@ module _ (db : Db) (table : Schema) (rows : List Row) (fit : AllByRecursion (Row
   change_accepted (Insert columns tuples) is = (
     tt,
     all_weaken (FitColumns (scope_of (map catalogued db.tables) [] []) table columns) (EachSuits (world_of db) table.columns no_row columns)
-        (λ tuple fits. each_suits (scope_of (map catalogued db.tables) [] []) (world_of db) no_row (record { row = tt; variables = tt }) table columns tuple fits) tuples is,
+        (λ tuple fits. each_suits (scope_of (map catalogued db.tables) [] []) (world_of db) no_row (record { row = tt; variables = tt }) table columns tuple fits) tuples is.1,
   )
   change_accepted (Update sets filter) is = (
     sets_columns (scope_of (map catalogued db.tables) [] (table_row table)) table sets is.0,

@@ -2,6 +2,7 @@
 use Rattle.std.proofs.Common.{◌≡◌, ℕ, ◌+◌, Bool, true, false, cond, codes, List, [], ◌∷◌, ◌++◌, map, find, length, if◌then◌else◌, Option, Some, None, Ok, refl, sym, ap, ◌∙◌}
 use Rattle.std.specs.List.{AllByRecursion, IsDistinct, filter_map, cons_option, slice_get}
 use Rattle.std.specs.Option.{option_map, option_and_then, IsSome}
+use Rattle.std.specs.Str.{bytes_eq}
 use Rattle.std.proofs.lemmas.Option.{slice_get-map, same_Some}
 use Rattle.std.proofs.lemmas.Slice.Eq.{bytes_eq-Decides}
 use Rattle.ct_types.specs.declared.bound.VersionColumn.{VersionColumn}
@@ -22,13 +23,18 @@ use Rattle.ct_bound_kinds.proofs.Columns.{stands_here, one_further, behind_one}
 
 -- ---- names that are the same
 
-pub same_folded : (a b : List ℕ) → same a b ≡ true → folded a ≡ folded b
+same_folded : (a b : List ℕ) → same a b ≡ true → folded a ≡ folded b
 unfolding same
 same_folded a b e = (bytes_eq-Decides (folded a) (folded b)).0 e
 
-pub folded_same : (a b : List ℕ) → folded a ≡ folded b → same a b ≡ true
+-- what is the same as one of two such names is the same as the other
+pub same_first : (a b c : List ℕ) → same a b ≡ true → same a c ≡ same b c
 unfolding same
-folded_same a b e = (bytes_eq-Decides (folded a) (folded b)).1 e
+same_first a b c alike = ap (λ name. bytes_eq name (folded c)) (same_folded a b alike)
+
+same_second : (a b c : List ℕ) → same a b ≡ true → same c a ≡ same c b
+unfolding same
+same_second a b c alike = ap (bytes_eq (folded c)) (same_folded a b alike)
 
 -- ---- the columns of the key by their ids
 
@@ -91,18 +97,12 @@ next_means test first rest column other found = ap (λ b. cond b (Some first) (f
 abbrev pub Means : List Column → Column → Type 0
 Means key column = (name : List ℕ) → same column.name name ≡ true → find (λ c. same c.name name) key ≡ Some column
 
-not_first : (first column : Column) (name : List ℕ) (b : Bool) → same first.name name ≡ b → same first.name column.name ≡ false → same column.name name ≡ true → b ≡ false
-not_first first column name false is apart alike = refl
-not_first first column name true is apart alike =
-    let told : same first.name column.name ≡ true = folded_same first.name column.name (same_folded first.name name is ∙ sym (same_folded column.name name alike)) in
-    absurd cc
-
 pub each_means : (key : List Column) → IsDistinct same (map (λ column. column.name) key) → AllByRecursion (Means key) key
 unfolding IsDistinct
 each_means [] distinct = tt
 each_means (first ∷ rest) distinct = (
   (λ name alike. ap (λ b. cond b (Some first) (find (λ c. same c.name name) rest)) alike),
   all_zip (λ column. same first.name column.name ≡ false) (Means rest) (Means (first ∷ rest))
-      (λ column apart means name alike. next_means (λ n. same n name) first rest column (not_first first column name (same first.name name) refl apart alike) (means name alike))
+      (λ column apart means name alike. next_means (λ n. same n name) first rest column (sym (same_second column.name name first.name alike) ∙ apart) (means name alike))
       rest (all_mapped (λ (column : Column). column.name) (λ name. same first.name name ≡ false) rest distinct.0) (each_means rest distinct.1),
 )

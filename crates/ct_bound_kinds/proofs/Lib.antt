@@ -7,6 +7,7 @@ pub mod Keys
 pub mod Versions
 pub mod Walks
 pub mod Kept
+pub mod Named
 pub mod Targets
 pub mod Writing
 pub mod Sourcing

@@ -1,6 +1,6 @@
 -- Lists each of whose items has a property, and what stands at a place.
-use Rattle.std.proofs.Common.{◌≡◌, Bool, true, false, List, [], ◌∷◌, ◌++◌, map, find, length, Some, None, not, cond, refl}
-use Rattle.std.specs.List.{AllByRecursion, slice_get}
+use Rattle.std.proofs.Common.{◌≡◌, Bool, true, false, List, [], ◌∷◌, ◌++◌, map, find, length, Some, None, not, ◌||◌, cond, refl}
+use Rattle.std.specs.List.{AllByRecursion, list_any, slice_get}
 use Rattle.ct_bound_kinds.proofs.Steps.{some_or}
 
 pub at_end : {X : Type 0} (before : List X) (x : X) (after : List X) → slice_get (before ++ x ∷ after) (length before) ≡ Some x
@@ -43,3 +43,14 @@ missed_one test false y xs e = absurd cc
 pub all_pass : {X : Type 0} (test : X → Bool) (xs : List X) → find (λ x. not (test x)) xs ≡ None → AllByRecursion (λ x. test x ≡ true) xs
 all_pass test [] e = tt
 all_pass test (y ∷ xs) e = let it = missed_one test (test y) y xs e in (it.0, all_pass test xs it.1)
+
+-- ---- none passes
+
+passes_not : (first more : Bool) → not (first || more) ≡ true → (first ≡ false) × (not more ≡ true)
+passes_not true more e = absurd cc
+passes_not false more e = (refl, e)
+
+-- where none passes the test, each fails it
+pub none_passes : {X : Type 0} (test : X → Bool) (xs : List X) → not (list_any test xs) ≡ true → AllByRecursion (λ x. test x ≡ false) xs
+none_passes test [] e = tt
+none_passes test (x ∷ xs) e = let it = passes_not (test x) (list_any test xs) e in (it.0, none_passes test xs it.1)

@@ -1,6 +1,6 @@
 -- That what an INSERT, an UPDATE or a DELETE comes to is well formed.
-use Rattle.std.proofs.Common.{◌≡◌, ◌≢◌, ℕ, ◌<◌, ◌==◌, true, nat_le, List, [], ◌∷◌, map, length, Option, IfSome, Ok, refl, sym, ap, ◌∙◌, arith}
-use Rattle.std.specs.List.{AllByRecursion}
+use Rattle.std.proofs.Common.{◌≡◌, ◌≢◌, ℕ, ◌<◌, ◌==◌, true, nat_eq, nat_le, List, [], ◌∷◌, map, length, Option, IfSome, Ok, refl, sym, ap, ◌∙◌, arith}
+use Rattle.std.specs.List.{AllByRecursion, IsDistinct}
 use Rattle.std.proofs.lemmas.Bool.Decides.{nat_tests}
 use Rattle.std.proofs.lemmas.List.{length-map, append-nil}
 use Rattle.ct_types.specs.declared.bound.BoundExpr.{BoundExpr}
@@ -33,13 +33,14 @@ use Rattle.ct_bind_expr.specs.Walk.{walk}
 use Rattle.ct_bind.specs.Sources.{shown, shown_columns, condition}
 use Rattle.ct_bind.specs.Writes.{insert_targets, set_target, updated_name, row_named, context_of, tuple_of, insert_change, set_of, update_change, delete_change, write_to, insert, update, delete, write_of}
 use Rattle.ct_bound_kinds.specs.Laws.{Sound, Shows, row_kinds, SetsSome}
-use Rattle.ct_bound_kinds.specs.Statements.{IsOf, IsCondition, table_row, FitsColumn, FitColumns, scope_of, IsChange, IsWrite}
+use Rattle.ct_bound_kinds.specs.Statements.{IsOf, IsCondition, table_row, IsColumnList, FitsColumn, FitColumns, scope_of, IsChange, IsWrite}
 use Rattle.ct_bound_kinds.proofs.Steps.{steps}
 use Rattle.ct_bound_kinds.proofs.Operators.{Answered, fits, fits_operand}
 use Rattle.ct_bound_kinds.proofs.Versions.{Tracked, existing}
 use Rattle.ct_bound_kinds.proofs.Walks.{every}
 use Rattle.ct_bound_kinds.proofs.Kept.{Kept, ok_kept, then_kept, after_kept, demand_kept, optional_kept, each_kept, each_after_kept, each_after_some, two_kept}
-use Rattle.ct_bound_kinds.proofs.Targets.{HasKind, MaySet, targets_kept, set_target_kept, fits_column}
+use Rattle.ct_bound_kinds.proofs.Named.{each_once}
+use Rattle.ct_bound_kinds.proofs.Targets.{HasKind, MaySet, NextSet, targets_are, set_target_kept, set_target_next, fits_column}
 
 -- ---- places
 
@@ -115,14 +116,17 @@ module _ (tables : List Catalogued) (variables : List Variable) (sound : Sound t
   insert_kept : (table : Schema) (columns : Option (List (List ℕ))) (tuples : List (List Expr)) → Kept (IsChange tables variables table) (insert_change tables variables table columns tuples)
   unfolding insert_change tuple_of
   insert_kept table columns tuples =
-      then_kept (AllByRecursion (λ it. HasKind table it.column it.kind)) (IsChange tables variables table) (insert_targets table columns) _ (targets_kept table columns)
-      (λ targets have. demand_kept (IsChange tables variables table) (nat_le (length tuples) 1000) (TooMany 1000) _
+      then_kept (λ made. AllByRecursion (λ it. HasKind table it.column it.kind) made × IsColumnList table (map (λ it. it.column) made)) (IsChange tables variables table) (insert_targets table columns) _ (targets_are table columns)
+      (λ targets are. demand_kept (IsChange tables variables table) (nat_le (length tuples) 1000) (TooMany 1000) _
       (λ _. then_kept (AllByRecursion (FitColumns (scope_of tables variables []) table (map (λ it. it.column) targets))) (IsChange tables variables table) (each (tuple_of tables variables targets) tuples) _
       (each_kept (FitColumns (scope_of tables variables []) table (map (λ it. it.column) targets)) (tuple_of tables variables targets)
-      (λ all. tuple_kept (scope_of tables variables []) table (λ it. it.column) (λ it. it.kind) closed targets (map (walk tables variables) all) have (all_walked [] closed closed_shows all)) tuples)
-      (λ rows fit. ok_kept (IsChange tables variables table) (Insert (map (λ it. it.column) targets) rows) fit)))
+      (λ all. tuple_kept (scope_of tables variables []) table (λ it. it.column) (λ it. it.kind) closed targets (map (walk tables variables) all) are.0 (all_walked [] closed closed_shows all)) tuples)
+      (λ rows fit. ok_kept (IsChange tables variables table) (Insert (map (λ it. it.column) targets) rows) (are.1, fit))))
 
   -- ---- UPDATE
+
+  abbrev set_id : BoundSet → ℕ
+  set_id set = set.column
 
   abbrev OfSet : Schema → BoundSet → Type 0
   OfSet table set = FitsColumn (scope_of tables variables (table_row table)) table set.column set.value × AllByRecursion (λ key. key ≢ set.column) table.key
@@ -136,6 +140,13 @@ module _ (tables : List Catalogued) (variables : List Variable) (sound : Sound t
       (operand_kept scope column.kind (walk tables variables it.value place) (walked (table_row table) place shows it.value))
       (λ value fit. ok_kept (OfSet table) (record { column = column.column; value = value }) (fits_column scope table column.column column.kind value may.0 fit, may.1)))
 
+  set_next : (table : Schema) (place : Place) (before : List SetColumn) (it : SetColumn) → Kept (λ set. NextSet table before it set.column) (set_of tables variables table place before it)
+  unfolding set_of
+  set_next table place before it =
+      then_kept (λ column. NextSet table before it column.column) (λ set. NextSet table before it set.column) (set_target table before it.column) _ (set_target_next table before it)
+      (λ column next. after_kept (λ set. NextSet table before it set.column) (walk tables variables it.value place >>= of_kind column.kind) _
+      (λ value. ok_kept (λ set. NextSet table before it set.column) (record { column = column.column; value = value }) next))
+
   split_sets : (table : Schema) (sets : List BoundSet) → AllByRecursion (OfSet table) sets
       → AllByRecursion (λ set. FitsColumn (scope_of tables variables (table_row table)) table set.column set.value) sets × AllByRecursion (λ set. AllByRecursion (λ key. key ≢ set.column) table.key) sets
   split_sets table [] all = (tt, tt)
@@ -146,13 +157,16 @@ module _ (tables : List Catalogued) (variables : List Variable) (sound : Sound t
   unfolding update_change
   update_kept table place sets filter shows some =
       let scope : Scope = scope_of tables variables (table_row table) in
-      then_kept (λ made. AllByRecursion (OfSet table) made × (0 < length made)) (IsChange tables variables table) (each_after (set_of tables variables table place) [] sets) _
-      (two_kept (AllByRecursion (OfSet table)) (λ made. 0 < length made) (each_after (set_of tables variables table place) [] sets)
-      (each_after_kept (OfSet table) (set_of tables variables table place) (set_kept table place shows) [] sets) (each_after_some (set_of tables variables table place) [] sets some))
+      let step : List SetColumn → SetColumn → Answer BoundSet = set_of tables variables table place in
+      let once = each_once table (λ (set : SetColumn). set.column) set_id step (set_next table place) [] sets in
+      let made_some = two_kept (λ made. 0 < length made) (λ made. IsDistinct nat_eq (map set_id made)) (each_after step [] sets) (each_after_some step [] sets some) (record { holds = λ made came. (once.holds made came).1 }) in
+      then_kept (λ made. AllByRecursion (OfSet table) made × ((0 < length made) × IsDistinct nat_eq (map set_id made))) (IsChange tables variables table) (each_after step [] sets) _
+      (two_kept (AllByRecursion (OfSet table)) (λ made. (0 < length made) × IsDistinct nat_eq (map set_id made)) (each_after step [] sets)
+      (each_after_kept (OfSet table) step (set_kept table place shows) [] sets) made_some)
       (λ made fine. then_kept (λ found. IfSome found (IsCondition scope)) (IsChange tables variables table) (optional (condition tables variables place) filter) _
       (optional_kept (IsCondition scope) (condition tables variables place) (condition_kept (table_row table) place shows) filter)
       (λ found holds. let parts = split_sets table made fine.0 in
-      ok_kept (IsChange tables variables table) (Update made found) (record { some = fine.1; values = parts.0; no_key = parts.1 }, holds)))
+      ok_kept (IsChange tables variables table) (Update made found) (record { some = fine.1.0; values = parts.0; distinct = fine.1.1; no_key = parts.1 }, holds)))
 
   -- ---- DELETE
 

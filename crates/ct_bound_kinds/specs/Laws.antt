@@ -1,5 +1,5 @@
 -- The laws that what binding answers is well formed: it names only what is there, and has the kind that it is said to have.
-use Rattle.std.specs.Prelude.{◌≡◌, ◌++◌, ◌<◌, List, [], length, map, nat_eq, slice_get, Option, Some, IfSome, Ok, IsSome}
+use Rattle.std.specs.Prelude.{◌≡◌, ◌++◌, ◌<◌, List, [], length, map, nat_eq, slice_get, Option, Some, IfSome, Ok}
 use Rattle.std.specs.List.{AllByRecursion, IsDistinct, flat_map}
 use Rattle.ct_types.specs.declared.bound.Bound.{Bound}
 use Rattle.ct_types.specs.declared.bound.Bound.TheVariants.{Write, Select, SetVariable, Declare, EnableTracking, DisableTracking, TruncateTable}
@@ -17,7 +17,7 @@ use Rattle.ct_model.specs.Tables.{catalogued}
 use Rattle.ct_model.specs.Valid.{IsValid}
 use Rattle.ct_kinds.specs.declared.kind.Kind.{Kind}
 use Rattle.ct_kinds.specs.Kinds.{kind_of_type}
-use Rattle.ct_kinds.specs.WellFormed.{column_of, kind_of}
+use Rattle.ct_kinds.specs.WellFormed.{kind_of}
 use Rattle.ct_names.specs.Names.{same}
 use Rattle.ct_bind_expr.specs.declared.place.Typed.{Typed}
 use Rattle.ct_bind_expr.specs.declared.place.Shape.{Shape}
@@ -26,7 +26,7 @@ use Rattle.ct_bind_expr.specs.declared.place.Place.{Place}
 use Rattle.ct_bind_expr.specs.Versions.{key_columns}
 use Rattle.ct_bind_expr.specs.Walk.{walk}
 use Rattle.ct_bind.specs.Binding.{binding}
-use Rattle.ct_bound_kinds.specs.Statements.{IsOf, IsTable, scope_of, IsWrite, IsAssignment}
+use Rattle.ct_bound_kinds.specs.Statements.{IsOf, IsTable, HasColumn, scope_of, IsWrite, IsAssignment}
 use Rattle.ct_bound_kinds.specs.Queries.{IsSelect}
 
 -- ---- tables
@@ -34,7 +34,7 @@ use Rattle.ct_bound_kinds.specs.Queries.{IsSelect}
 -- the key has one column at least; its columns are columns of the table, and have distinct names
 pub record HasKey (table : Schema) : Type 0 where
   pub some : 0 < length table.key
-  pub columns : AllByRecursion (λ id. IsSome (column_of table.columns id)) table.key
+  pub columns : AllByRecursion (HasColumn table) table.key
   pub names : IsDistinct same (map (λ column. column.name) (key_columns table))
 
 -- the tables have distinct ids, and each has a key

@@ -1,7 +1,7 @@
 -- Which bound statements are well formed: they name only what is there, and each expression has the kind that its place
 -- wants, on the row on which it is evaluated. This project's own.
-use Rattle.std.specs.Prelude.{◌≡◌, ◌≢◌, ℕ, ◌<◌, true, List, [], ◌∷◌, length, map, slice_get, Some, IfSome, IsSome}
-use Rattle.std.specs.List.{AllByRecursion}
+use Rattle.std.specs.Prelude.{◌≡◌, ◌≢◌, ℕ, ◌<◌, true, List, [], ◌∷◌, length, map, nat_eq, slice_get, Some, IfSome, IsSome}
+use Rattle.std.specs.List.{AllByRecursion, IsDistinct}
 use Rattle.std.specs.Option.{IsSomeAnd}
 use Rattle.ct_types.specs.declared.bound.BoundExpr.{BoundExpr}
 use Rattle.ct_types.specs.declared.bound.BoundSet.{BoundSet}
@@ -14,7 +14,7 @@ use Rattle.ct_types.specs.declared.schema.Schema.{Schema}
 use Rattle.ct_kinds.specs.declared.kind.Kind.{Kind}
 use Rattle.ct_kinds.specs.declared.kind.Kind.TheVariants.{Bytes}
 use Rattle.ct_kinds.specs.Kinds.{kind_of_type}
-use Rattle.ct_kinds.specs.WellFormed.{Scope, table_of, column_kind, kind_of, is_of, is_condition}
+use Rattle.ct_kinds.specs.WellFormed.{Scope, table_of, column_of, column_kind, kind_of, is_of, is_condition}
 
 -- ---- expressions
 
@@ -35,6 +35,15 @@ IsTable tables id = IsSome (table_of (map (λ table. table.schema) tables) id)
 abbrev pub table_row : Schema → List Kind
 table_row table = map (λ column. kind_of_type column.kind) table.columns
 
+-- the table has a column of this id
+abbrev pub HasColumn : Schema → ℕ → Type 0
+HasColumn table id = IsSome (column_of table.columns id)
+
+-- a list of columns of the table, each of which stands in it once
+pub record IsColumnList (table : Schema) (ids : List ℕ) : Type 0 where
+  pub columns : AllByRecursion (HasColumn table) ids
+  pub distinct : IsDistinct nat_eq ids
+
 -- the table has a column of this id, and the value is of its kind
 abbrev pub FitsColumn : Scope → Schema → ℕ → BoundExpr → Type 0
 FitsColumn scope table id value = IsSomeAnd (column_kind table id) (λ kind. IsOf scope kind value)
@@ -45,10 +54,11 @@ FitColumns scope table [] [] = Unit {0}
 FitColumns scope table (id ∷ ids) (value ∷ values) = FitsColumn scope table id value × FitColumns scope table ids values
 FitColumns scope table ids values = ⊥
 
--- a SET list sets one column at least, each to a value of its kind, and none of the key
+-- a SET list sets one column at least, each once and to a value of its kind, and none of the key
 pub record IsSetList (scope : Scope) (table : Schema) (sets : List BoundSet) : Type 0 where
   pub some : 0 < length sets
   pub values : AllByRecursion (λ set. FitsColumn scope table set.column set.value) sets
+  pub distinct : IsDistinct nat_eq (map (λ set. set.column) sets)
   pub no_key : AllByRecursion (λ set. AllByRecursion (λ key. key ≢ set.column) table.key) sets
 
 -- ---- statements
@@ -60,7 +70,7 @@ module _ (tables : List Catalogued) (variables : List Variable) where
 
   -- VALUES names no column; SET and WHERE stand on a row of the table
   abbrev pub IsChange : Schema → RowChange → Type 0
-  IsChange table (Insert columns tuples) = AllByRecursion (FitColumns (scope_of []) table columns) tuples
+  IsChange table (Insert columns tuples) = IsColumnList table columns × AllByRecursion (FitColumns (scope_of []) table columns) tuples
   IsChange table (Update sets filter) = IsSetList (scope_of (table_row table)) table sets × IfSome filter (IsCondition (scope_of (table_row table)))
   IsChange table (Delete filter) = IfSome filter (IsCondition (scope_of (table_row table)))
 
