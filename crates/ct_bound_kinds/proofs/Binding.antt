@@ -1,6 +1,7 @@
 -- That what binding answers is well formed: the forms of statements, one by one.
 use Rattle.std.proofs.Common.{◌≡◌, ℕ, ◌+◌, ◌==◌, not, Bool, true, nat_le, nat_lt, List, [], map, length, slice_get, Option, Some, None, IfSome, is_some, refl, sym, ap, subst, ◌∙◌}
-use Rattle.std.specs.Option.{option_map, IsSomeAnd}
+use Rattle.std.specs.Option.{option_map, IsNone, IsSomeAnd}
+use Rattle.std.proofs.lemmas.Bool.{not-true}
 use Rattle.std.proofs.lemmas.Option.{slice_get-map}
 use Rattle.ct_types.specs.declared.bound.Bound.TheVariants.{AcceptOption, AlterDatabase, CreateTable, EnableTracking, DisableTracking, TruncateTable, Write, Select, Begin, Commit, Rollback, SetIsolation, SetLockTimeout, SetVariable, Declare}
 use Rattle.ct_types.specs.declared.bound.BoundExpr.{BoundExpr}
@@ -33,14 +34,14 @@ use Rattle.ct_bind.specs.Binding.{kind_of_name, truncate, value_of, set_variable
 use Rattle.ct_bind.specs.Queries.{select}
 use Rattle.ct_bind.specs.Writes.{write_of}
 use Rattle.ct_bound_kinds.specs.Laws.{Sound, Shows, IsWritten, IsWellFormed, BoundAreWellFormed}
-use Rattle.ct_bound_kinds.specs.Statements.{IsOf, IsTable, scope_of, IsWrite}
+use Rattle.ct_bound_kinds.specs.Statements.{IsOf, scope_of, IsWrite}
 use Rattle.ct_bound_kinds.specs.Queries.{IsSelect}
 use Rattle.ct_bound_kinds.proofs.Steps.{there}
 use Rattle.ct_bound_kinds.proofs.Operators.{fits}
 use Rattle.ct_bound_kinds.proofs.Columns.{variable_stands}
 use Rattle.ct_bound_kinds.proofs.Kept.{Kept, ok_kept, err_kept, then_kept, after_kept, demand_kept, optional_kept}
 use Rattle.ct_bound_kinds.proofs.Targets.{type_fits}
-use Rattle.ct_bound_kinds.proofs.Versions.{Tracked, existing, tracked}
+use Rattle.ct_bound_kinds.proofs.Versions.{IsThere, IsThereTracked, existing, tracked}
 use Rattle.ct_bound_kinds.proofs.Writing.{operand_kept, walked, write_kept}
 use Rattle.ct_bound_kinds.proofs.Selecting.{select_kept}
 
@@ -121,31 +122,29 @@ module _ (tables : List Catalogued) (variables : List Variable) (sound : Sound t
       (λ _. after_kept (IsWellFormed tables variables) (demand (not (is_some (table_named tables (table_name name)))) (Exists (table_name name))) _
       (λ _. after_kept (IsWellFormed tables variables) (schema_of (length tables + 1) (table_name name) columns key) _ (λ schema. ok_kept (IsWellFormed tables variables) (CreateTable schema) tt))))
 
-  -- a table that is found is there
-  is_table : (table : Catalogued) → Tracked tables table → IsTable tables table.schema.id
-  is_table table here = ap is_some here.found
-
-  table_kept : (name : ObjectName) → Kept (λ table. IsTable tables table.schema.id) (existing_table tables name)
-  table_kept name = record { holds = λ table e. is_table table (existing tables name table sound e) }
+  table_kept : (name : ObjectName) → Kept (IsThere tables) (existing_table tables name)
+  table_kept name = record { holds = λ table e. existing tables name table sound e }
 
   enable_kept : (keep : Option Keep) (name : ObjectName) (masks : Bool) → Kept (IsWellFormed tables variables) (enable tables keep name masks)
   unfolding enable
   enable_kept keep name masks =
-      then_kept (λ table. IsTable tables table.schema.id) (IsWellFormed tables variables) (existing_table tables name) _ (table_kept name)
-      (λ table here. after_kept (IsWellFormed tables variables) (demand (not (is_some table.tracked)) (AlreadyTracked (table_name name))) _
-      (λ _. after_kept (IsWellFormed tables variables) (demand (is_some keep) TrackingOff) _ (λ _. ok_kept (IsWellFormed tables variables) (EnableTracking table.schema.id masks) here)))
+      then_kept (IsThere tables) (IsWellFormed tables variables) (existing_table tables name) _ (table_kept name)
+      (λ table here. demand_kept (IsWellFormed tables variables) (not (is_some table.tracked)) (AlreadyTracked (table_name name)) _
+      (λ free. after_kept (IsWellFormed tables variables) (demand (is_some keep) TrackingOff) _
+      (λ _. ok_kept (IsWellFormed tables variables) (EnableTracking table.schema.id masks)
+      (subst (λ (found : Option Catalogued). IsSomeAnd found (λ table. IsNone table.tracked)) (sym here.stands) (not-true (is_some table.tracked) free)))))
 
   disable_kept : (name : ObjectName) → Kept (IsWellFormed tables variables) (disable tables name)
   unfolding disable
   disable_kept name =
-      then_kept (λ table. IsTable tables table.schema.id) (IsWellFormed tables variables) (tracked_table tables name) _ (record { holds = λ table e. is_table table (tracked tables name table sound e) })
-      (λ table here. ok_kept (IsWellFormed tables variables) (DisableTracking table.schema.id) here)
+      then_kept (IsThereTracked tables) (IsWellFormed tables variables) (tracked_table tables name) _ (record { holds = λ table e. tracked tables name table sound e })
+      (λ table here. ok_kept (IsWellFormed tables variables) (DisableTracking table.schema.id) (ap is_some here.found))
 
   truncate_kept : (name : ObjectName) → Kept (IsWellFormed tables variables) (truncate tables variables name)
   unfolding truncate
   truncate_kept name =
-      then_kept (λ table. IsTable tables table.schema.id) (IsWellFormed tables variables) (existing_table tables name) _ (table_kept name)
-      (λ table here. ok_kept (IsWellFormed tables variables) (TruncateTable table.schema.id) here)
+      then_kept (IsThere tables) (IsWellFormed tables variables) (existing_table tables name) _ (table_kept name)
+      (λ table here. ok_kept (IsWellFormed tables variables) (TruncateTable table.schema.id) (ap is_some here.stands))
 
   -- ---- the whole
 

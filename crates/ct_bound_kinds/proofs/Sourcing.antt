@@ -48,7 +48,7 @@ use Rattle.ct_bound_kinds.specs.Statements.{IsCondition, table_row, scope_of}
 use Rattle.ct_bound_kinds.specs.Queries.{changes_row, version_row, seen_by, source_row, shown_row}
 use Rattle.ct_bound_kinds.proofs.Lists.{all_append}
 use Rattle.ct_bound_kinds.proofs.Operators.{AllAnswered, fits}
-use Rattle.ct_bound_kinds.proofs.Versions.{Tracked, existing, tracked, version_kinded}
+use Rattle.ct_bound_kinds.proofs.Versions.{IsThere, IsThereTracked, existing, tracked, version_kinded}
 use Rattle.ct_bound_kinds.proofs.Kept.{Kept, ok_kept, then_kept, after_kept, demand_kept}
 use Rattle.ct_bound_kinds.proofs.Writing.{closed_shows, table_kinds, operand_kept, walked, condition_kept}
 
@@ -112,7 +112,7 @@ module _ (tables : List Catalogued) (variables : List Variable) (sound : Sound t
   plain_kept : (before : List Shape) (from : TableSource) → Kept (λ it. ShowsIn [] it.source it.shape) (plain_sourced tables before from)
   unfolding plain_sourced
   plain_kept before from =
-      then_kept (Tracked tables) (λ it. ShowsIn [] it.source it.shape) (existing_table tables from.table) _ (record { holds = λ table e. existing tables from.table table sound e })
+      then_kept (IsThere tables) (λ it. ShowsIn [] it.source it.shape) (existing_table tables from.table) _ (record { holds = λ table e. existing tables from.table table sound e })
       (λ table here. after_kept (λ it. ShowsIn [] it.source it.shape) (unique before (source_name from)) _
       (λ _. ok_kept (λ it. ShowsIn [] it.source it.shape) (sourced (bound.Table table.schema.id) (shape (source_name from) (shown_columns table.schema.columns)))
       (shows_in [] (bound.Table table.schema.id) (shape (source_name from) (shown_columns table.schema.columns)) (table_row table.schema) (table_kinds table.schema.columns)
@@ -129,13 +129,13 @@ module _ (tables : List Catalogued) (variables : List Variable) (sound : Sound t
   unfolding changes_source
   changes_kept before name since alias =
       let scope : Scope = scope_of tables variables [] in
-      then_kept (Tracked tables) (λ it. ShowsIn [] it.source it.shape) (tracked_table tables name) _ (record { holds = λ table e. tracked tables name table sound e })
+      then_kept (IsThereTracked tables) (λ it. ShowsIn [] it.source it.shape) (tracked_table tables name) _ (record { holds = λ table e. tracked tables name table sound e })
       (λ table here. after_kept (λ it. ShowsIn [] it.source it.shape) (unique before alias) _
       (λ _. then_kept (λ value. fits Number (kind_of scope value) ≡ true) (λ it. ShowsIn [] it.source it.shape) (walk tables variables since closed >>= of_kind Number) _
       (operand_kept scope Number (walk tables variables since closed) (walked tables variables sound [] closed closed_shows since))
       (λ value fit. ok_kept (λ it. ShowsIn [] it.source it.shape) (sourced (bound.Changes table.schema.id value) (shape alias (changes_columns table.schema)))
       (shows_in [] (bound.Changes table.schema.id value) (shape alias (changes_columns table.schema)) (changes_row table.schema) (changes_kinds table.schema)
-      (ap (λ test. if test then option_map changes_row (table_of (map (λ table. table.schema) tables) table.schema.id) else None) fit ∙ ap (option_map changes_row) here.found)
+      (ap (λ test. if test then option_map changes_row (table_of (map (λ table. table.schema) tables) table.schema.id) else None) fit ∙ ap (option_map changes_row) here.there.found)
       (refl, (refl, (refl, (refl, (refl, types_are_values (key_columns table.schema))))))))))
 
   all_answered : (seen : List Kind) (place : Place) → Shows place seen → (all : List Expr) → AllAnswered (scope_of tables variables seen) (map (λ e. walk tables variables e place) all)
@@ -146,12 +146,12 @@ module _ (tables : List Catalogued) (variables : List Variable) (sound : Sound t
   unfolding version_source
   version_kept before seen place from shows =
       let scope : Scope = scope_of tables variables seen in
-      then_kept (Tracked tables) (λ it. ShowsIn seen it.source it.shape) (tracked_table tables from.version.table) _ (record { holds = λ table e. tracked tables from.version.table table sound e })
+      then_kept (IsThereTracked tables) (λ it. ShowsIn seen it.source it.shape) (tracked_table tables from.version.table) _ (record { holds = λ table e. tracked tables from.version.table table sound e })
       (λ table here. after_kept (λ it. ShowsIn seen it.source it.shape) (unique before from.alias) _
       (λ _. then_kept (λ version. table_of_version scope version ≡ Some table.schema) (λ it. ShowsIn seen it.source it.shape)
       (version_of table.schema from.version.columns (map (walk tables variables) from.version.values) place) _
       (record {
-        holds = λ version e. version_kinded scope table.schema from.version.columns (map (λ e. walk tables variables e place) from.version.values) version here.has here.found
+        holds = λ version e. version_kinded scope table.schema from.version.columns (map (λ e. walk tables variables e place) from.version.values) version here.there.has here.there.found
             (all_answered seen place shows from.version.values) (sym (version_at (walk tables variables) place table.schema from.version.columns from.version.values) ∙ e);
       })
       (λ version is. ok_kept (λ it. ShowsIn seen it.source it.shape) (sourced (bound.Version version) (shape from.alias (version_columns table.schema)))

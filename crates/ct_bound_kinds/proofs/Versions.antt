@@ -1,8 +1,8 @@
 -- That CHANGETABLE(VERSION ..) names a table and gives its key a value of each column's kind, and that the scalar form has
 -- the kind of the column that it shows.
-use Rattle.std.proofs.Common.{◌≡◌, ℕ, ◌+◌, Bool, true, false, not, cond, ◌&&◌, ◌||◌, ◌==◌, List, [], ◌∷◌, ◌++◌, map, find, length, if◌then◌else◌, nat_eq, Option, Some, None, Ok, refl, sym, ap, ◌∙◌, subst, arith}
+use Rattle.std.proofs.Common.{◌≡◌, ℕ, ◌+◌, Bool, true, false, not, cond, ◌&&◌, ◌||◌, ◌==◌, List, [], ◌∷◌, ◌++◌, map, find, length, if◌then◌else◌, nat_eq, Option, Some, None, is_some, Ok, refl, sym, ap, ◌∙◌, subst, arith}
 use Rattle.std.specs.List.{AllByRecursion, IsDistinct, list_any, position_from, filter_map, cons_option, slice_get}
-use Rattle.std.specs.Option.{option_and_then}
+use Rattle.std.specs.Option.{option_map, option_and_then}
 use Rattle.std.specs.Cmp.Lexicographic.{pointwise}
 use Rattle.std.proofs.lemmas.Bool.Decides.{nat_tests}
 use Rattle.std.proofs.lemmas.List.{length-map}
@@ -34,6 +34,7 @@ use Rattle.ct_bind_expr.specs.Versions.{operand, values, tuple, key_columns, kin
 use Rattle.ct_bind_expr.specs.Walk.{scalar_column}
 use Rattle.ct_bind_expr.specs.Walked.{walked, scalar_with}
 use Rattle.ct_bound_kinds.specs.Laws.{HasKey, Sound}
+use Rattle.ct_bound_kinds.specs.Statements.{catalogued_of, tracked_of}
 use Rattle.ct_bound_kinds.proofs.Steps.{steps, passed, same_Ok, there}
 use Rattle.ct_bound_kinds.proofs.Lists.{all_found, all_mapped, all_pass, all_zip}
 use Rattle.ct_bound_kinds.proofs.Operators.{Kinded, Answered, AllAnswered, layer, fits, fits_operand}
@@ -200,47 +201,71 @@ module _ (s : Scope) where
 
 -- ---- tables by their ids
 
-same_id : (tables : List Catalogued) (first table : Catalogued) (test : Bool) → (first.schema.id == table.schema.id) ≡ test → test ≡ false → table_of (map (λ table. table.schema) tables) table.schema.id ≡ Some table.schema
-    → cond test (Some first.schema) (table_of (map (λ table. table.schema) tables) table.schema.id) ≡ Some table.schema
-same_id tables first table true is other found = absurd cc
-same_id tables first table false is other found = found
+later_stands : (tables : List Catalogued) (first table : Catalogued) (test : Bool) → (first.schema.id == table.schema.id) ≡ test → test ≡ false → catalogued_of tables table.schema.id ≡ Some table
+    → cond test (Some first) (catalogued_of tables table.schema.id) ≡ Some table
+later_stands tables first table true is other found = absurd cc
+later_stands tables first table false is other found = found
 
-first_or_later : (first table : Catalogued) (tables : List Catalogued) (test : Bool) (later : Option Catalogued) → AllByRecursion (λ id. nat_eq first.schema.id id ≡ false) (map (λ table. table.schema.id) tables)
-    → (later ≡ Some table → nat_eq first.schema.id table.schema.id ≡ false) → (later ≡ Some table → table_of (map (λ table. table.schema) tables) table.schema.id ≡ Some table.schema)
-    → cond test (Some first) later ≡ Some table → table_of (map (λ table. table.schema) (first ∷ tables)) table.schema.id ≡ Some table.schema
-first_or_later first table tables true later apart other more e =
+first_or_later : (first table : Catalogued) (tables : List Catalogued) (test : Bool) (later : Option Catalogued) → (later ≡ Some table → nat_eq first.schema.id table.schema.id ≡ false)
+    → (later ≡ Some table → catalogued_of tables table.schema.id ≡ Some table) → cond test (Some first) later ≡ Some table → catalogued_of (first ∷ tables) table.schema.id ≡ Some table
+first_or_later first table tables true later other more e =
     let same : first ≡ table = cc in
     let own : nat_eq table.schema.id table.schema.id ≡ true = grind (arith, nat_tests) in
-    subst (λ (it : Catalogued). cond (nat_eq it.schema.id table.schema.id) (Some it.schema) (table_of (map (λ table. table.schema) tables) table.schema.id) ≡ Some table.schema) (sym same)
-    (ap (λ t. cond t (Some table.schema) (table_of (map (λ table. table.schema) tables) table.schema.id)) own)
-first_or_later first table tables false later apart other more e = same_id tables first table (nat_eq first.schema.id table.schema.id) refl (other e) (more e)
+    subst (λ (it : Catalogued). cond (nat_eq it.schema.id table.schema.id) (Some it) (catalogued_of tables table.schema.id) ≡ Some table) (sym same)
+    (ap (λ t. cond t (Some table) (catalogued_of tables table.schema.id)) own)
+first_or_later first table tables false later other more e = later_stands tables first table (nat_eq first.schema.id table.schema.id) refl (other e) (more e)
 
-found_again : (test : Catalogued → Bool) (tables : List Catalogued) (table : Catalogued) → IsDistinct nat_eq (map (λ table. table.schema.id) tables) → find test tables ≡ Some table
-    → table_of (map (λ table. table.schema) tables) table.schema.id ≡ Some table.schema
+-- a table that is found stands in the catalogue with its id
+stands : (test : Catalogued → Bool) (tables : List Catalogued) (table : Catalogued) → IsDistinct nat_eq (map (λ table. table.schema.id) tables) → find test tables ≡ Some table
+    → catalogued_of tables table.schema.id ≡ Some table
 unfolding IsDistinct
-found_again test [] table distinct e = absurd cc
-found_again test (first ∷ tables) table distinct e =
-    first_or_later first table tables (test first) (find test tables) distinct.0
+stands test [] table distinct e = absurd cc
+stands test (first ∷ tables) table distinct e =
+    first_or_later first table tables (test first) (find test tables)
     (all_found (λ table. nat_eq first.schema.id table.schema.id ≡ false) test tables table (all_mapped (λ (table : Catalogued). table.schema.id) (λ id. nat_eq first.schema.id id ≡ false) tables distinct.0))
-    (found_again test tables table distinct.1) e
+    (stands test tables table distinct.1) e
 
-pub record Tracked (tables : List Catalogued) (table : Catalogued) : Type 0 where
+mapped_or : (test : Bool) (first : Catalogued) (schema : Option Schema) (table : Option Catalogued) → schema ≡ option_map (λ table. table.schema) table
+    → cond test (Some first.schema) schema ≡ option_map (λ table. table.schema) (cond test (Some first) table)
+mapped_or true first schema table is = refl
+mapped_or false first schema table is = is
+
+-- the schema with an id is that of the table with the id
+schema_of : (tables : List Catalogued) (id : ℕ) → table_of (map (λ table. table.schema) tables) id ≡ option_map (λ table. table.schema) (catalogued_of tables id)
+schema_of [] id = refl
+schema_of (first ∷ tables) id = mapped_or (first.schema.id == id) first (table_of (map (λ table. table.schema) tables) id) (catalogued_of tables id) (schema_of tables id)
+
+pub record IsThere (tables : List Catalogued) (table : Catalogued) : Type 0 where
+  pub stands : catalogued_of tables table.schema.id ≡ Some table
   pub found : table_of (map (λ table. table.schema) tables) table.schema.id ≡ Some table.schema
   pub has : HasKey table.schema
 
-pub existing : (tables : List Catalogued) (name : ObjectName) (table : Catalogued) → Sound tables → existing_table tables name ≡ Ok table → Tracked tables table
+pub existing : (tables : List Catalogued) (name : ObjectName) (table : Catalogued) → Sound tables → existing_table tables name ≡ Ok table → IsThere tables table
 unfolding existing_table table_named
 existing tables name table sound e =
     let test : Catalogued → Bool = λ table. same table.schema.name (table_name name) in
     let is : find test tables ≡ Some table = there (find test tables) (NoObject (table_name name)) table e in
-    record { found = found_again test tables table sound.distinct is; has = all_found (λ table. HasKey table.schema) test tables table sound.keys is }
+    let own : catalogued_of tables table.schema.id ≡ Some table = stands test tables table sound.distinct is in
+    record {
+      stands = own;
+      found = schema_of tables table.schema.id ∙ ap (option_map (λ (table : Catalogued). table.schema)) own;
+      has = all_found (λ table. HasKey table.schema) test tables table sound.keys is;
+    }
 
-pub tracked : (tables : List Catalogued) (name : ObjectName) (table : Catalogued) → Sound tables → tracked_table tables name ≡ Ok table → Tracked tables table
+pub record IsThereTracked (tables : List Catalogued) (table : Catalogued) : Type 0 where
+  pub there : IsThere tables table
+  pub found : tracked_of tables table.schema.id ≡ Some table.schema
+
+pub tracked : (tables : List Catalogued) (name : ObjectName) (table : Catalogued) → Sound tables → tracked_table tables name ≡ Ok table → IsThereTracked tables table
 unfolding tracked_table
 tracked tables name table sound e =
     let p = steps (existing_table tables name) _ table e in
     let q = passed _ (NotTracked (table_name name)) (Ok p.came) table p.goes in
-    subst (Tracked tables) (same_Ok p.came table q.goes) (existing tables name p.came sound p.is)
+    let here : IsThere tables p.came = existing tables name p.came sound p.is in
+    subst (IsThereTracked tables) (same_Ok p.came table q.goes) (record {
+      there = here;
+      found = ap (option_and_then (λ table. if is_some table.tracked then Some table.schema else None)) here.stands ∙ ap (λ test. if test then Some p.came.schema else None) q.holds;
+    })
 
 pub scalar_kinded : (s : Scope) (tables : List Catalogued) (scalar : Scalar) (answers : List (Answer Typed)) → Sound tables → s.tables ≡ map (λ table. table.schema) tables → AllAnswered s answers
     → Answered s (scalar_with tables scalar answers)
@@ -250,5 +275,5 @@ scalar_kinded s tables scalar answers sound are all it e =
     let p = steps (tracked_table tables scalar.version.table) (λ table. version_of table.schema scalar.version.columns (map walked answers) closed >>= (λ version. shown table version)) it e in
     let q = steps (version_of p.came.schema scalar.version.columns (map walked answers) closed) (λ version. shown p.came version) it p.goes in
     let t = tracked tables scalar.version.table p.came sound p.is in
-    let found : table_of s.tables p.came.schema.id ≡ Some p.came.schema = ap (λ ts. table_of ts p.came.schema.id) are ∙ t.found in
-    column_kinded s p.came.schema scalar.source scalar.alias scalar.column q.came t.has (version_kinded s p.came.schema scalar.version.columns answers q.came t.has found all q.is) it q.goes
+    let found : table_of s.tables p.came.schema.id ≡ Some p.came.schema = ap (λ ts. table_of ts p.came.schema.id) are ∙ t.there.found in
+    column_kinded s p.came.schema scalar.source scalar.alias scalar.column q.came t.there.has (version_kinded s p.came.schema scalar.version.columns answers q.came t.there.has found all q.is) it q.goes

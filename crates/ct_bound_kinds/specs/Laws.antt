@@ -26,7 +26,7 @@ use Rattle.ct_bind_expr.specs.declared.place.Place.{Place}
 use Rattle.ct_bind_expr.specs.Versions.{key_columns}
 use Rattle.ct_bind_expr.specs.Walk.{walk}
 use Rattle.ct_bind.specs.Binding.{binding}
-use Rattle.ct_bound_kinds.specs.Statements.{IsOf, IsTable, HasColumn, scope_of, IsWrite, IsAssignment}
+use Rattle.ct_bound_kinds.specs.Statements.{IsOf, IsTable, IsTracked, IsUntracked, HasColumn, scope_of, IsWrite, IsAssignment}
 use Rattle.ct_bound_kinds.specs.Queries.{IsSelect}
 
 -- ---- tables
@@ -81,14 +81,15 @@ abbrev pub IsWritten : Stmt → Type 0
 IsWritten (stmt.Write context write) = SetsSome write
 IsWritten stmt = Unit {0}
 
--- what a bound statement names is there, and its expressions are well formed; a form that is not told here names nothing
+-- What a bound statement names is there, and its expressions are well formed. CREATE TABLE and ALTER DATABASE have laws of
+-- their own; the other forms that are not told here name nothing.
 abbrev pub IsWellFormed : List Catalogued → List Variable → Bound → Type 0
 IsWellFormed tables variables (Write write) = IsWrite tables variables write
 IsWellFormed tables variables (Select select) = IsSelect tables variables select
 IsWellFormed tables variables (SetVariable variable value) = IsAssignment tables variables variable value
 IsWellFormed tables variables (Declare name type value) = IfSome value (IsOf (scope_of tables variables []) (kind_of_type type))
-IsWellFormed tables variables (EnableTracking table masks) = IsTable tables table
-IsWellFormed tables variables (DisableTracking table) = IsTable tables table
+IsWellFormed tables variables (EnableTracking table masks) = IsUntracked tables table
+IsWellFormed tables variables (DisableTracking table) = IsTracked tables table
 IsWellFormed tables variables (TruncateTable table) = IsTable tables table
 IsWellFormed tables variables bound = Unit {0}
 

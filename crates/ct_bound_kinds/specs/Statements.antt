@@ -1,8 +1,8 @@
 -- Which bound statements are well formed: they name only what is there, and each expression has the kind that its place
 -- wants, on the row on which it is evaluated. This project's own.
-use Rattle.std.specs.Prelude.{◌≡◌, ◌≢◌, ℕ, ◌<◌, true, List, [], ◌∷◌, length, map, nat_eq, slice_get, Some, IfSome, IsSome}
+use Rattle.std.specs.Prelude.{◌≡◌, ◌≢◌, ℕ, ◌<◌, ◌==◌, true, if◌then◌else◌, List, [], ◌∷◌, length, map, nat_eq, find, slice_get, Option, Some, None, is_some, IfSome, IsSome}
 use Rattle.std.specs.List.{AllByRecursion, IsDistinct}
-use Rattle.std.specs.Option.{IsSomeAnd}
+use Rattle.std.specs.Option.{option_and_then, IsNone, IsSomeAnd}
 use Rattle.ct_types.specs.declared.bound.BoundExpr.{BoundExpr}
 use Rattle.ct_types.specs.declared.bound.BoundSet.{BoundSet}
 use Rattle.ct_types.specs.declared.bound.BoundWrite.{BoundWrite}
@@ -27,9 +27,24 @@ IsCondition scope expr = is_condition (kind_of scope expr) ≡ true
 
 -- ---- tables and their columns
 
+-- the table with this id, as it stands in the catalogue
+abbrev pub catalogued_of : List Catalogued → ℕ → Option Catalogued
+catalogued_of tables id = find (λ table. table.schema.id == id) tables
+
+-- the tracked table with this id
+abbrev pub tracked_of : List Catalogued → ℕ → Option Schema
+tracked_of tables id = option_and_then (λ table. if is_some table.tracked then Some table.schema else None) (catalogued_of tables id)
+
 -- a table has this id
 abbrev pub IsTable : List Catalogued → ℕ → Type 0
-IsTable tables id = IsSome (table_of (map (λ table. table.schema) tables) id)
+IsTable tables id = IsSome (catalogued_of tables id)
+
+abbrev pub IsTracked : List Catalogued → ℕ → Type 0
+IsTracked tables id = IsSome (tracked_of tables id)
+
+-- a table has this id, and is not tracked
+abbrev pub IsUntracked : List Catalogued → ℕ → Type 0
+IsUntracked tables id = IsSomeAnd (catalogued_of tables id) (λ table. IsNone table.tracked)
 
 -- the kinds of the columns of its rows
 abbrev pub table_row : Schema → List Kind
