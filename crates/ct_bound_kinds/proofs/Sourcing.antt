@@ -1,7 +1,7 @@
 -- The sources of FROM: what each shows, and that the row of both is that of their columns.
 use Rattle.std.proofs.Common.{◌≡◌, ℕ, Bool, true, false, List, [], ◌∷◌, ◌++◌, map, if◌then◌else◌, Option, Some, None, IfSome, refl, sym, ap, subst, ◌∙◌}
 use Rattle.std.specs.List.{AllByRecursion}
-use Rattle.std.specs.Option.{option_map}
+use Rattle.std.specs.Option.{option_map, option_and_then}
 use Rattle.std.proofs.lemmas.List.{append-nil}
 use Rattle.ct_types.specs.declared.bound.BoundExpr.{BoundExpr}
 use Rattle.ct_types.specs.declared.bound.BoundSource.{BoundSource}
@@ -29,7 +29,7 @@ use Rattle.ct_types.specs.declared.stmt.VersionSource.{VersionSource}
 use Rattle.ct_kinds.specs.declared.kind.Kind.{Kind}
 use Rattle.ct_kinds.specs.declared.kind.Kind.TheVariants.{Number, Text, Bytes}
 use Rattle.ct_kinds.specs.Kinds.{kind_of_type, is_value}
-use Rattle.ct_kinds.specs.WellFormed.{Scope, table_of, table_of_version, kind_of}
+use Rattle.ct_kinds.specs.WellFormed.{Scope, table_of_version, kind_of}
 use Rattle.ct_types.specs.Answers.{◌>>=◌}
 use Rattle.ct_names.specs.declared.catalogue.SystemTable.{SystemTable}
 use Rattle.ct_names.specs.declared.catalogue.SystemTable.TheVariants.{Commits, Tracking}
@@ -44,7 +44,7 @@ use Rattle.ct_bind_expr.proofs.Walked.{version_at}
 use Rattle.ct_bind.specs.Sources.{shape, shown_columns, changes_columns, version_columns, system_columns, system_source, source_name, unique, sourced, system_sourced, plain_sourced, table_by, table_source, no_source, alone, pair, join_of, condition, changes_source, version_source, one_source, joined_on, applied, joined_with, joined}
 use Rattle.ct_bind.specs.Queries.{from_of}
 use Rattle.ct_bound_kinds.specs.Laws.{Sound, Shows, row_kinds}
-use Rattle.ct_bound_kinds.specs.Statements.{IsCondition, table_row, scope_of}
+use Rattle.ct_bound_kinds.specs.Statements.{IsCondition, tracked_of, table_row, scope_of}
 use Rattle.ct_bound_kinds.specs.Queries.{changes_row, version_row, seen_by, source_row, shown_row}
 use Rattle.ct_bound_kinds.proofs.Lists.{all_append}
 use Rattle.ct_bound_kinds.proofs.Operators.{AllAnswered, fits}
@@ -135,7 +135,7 @@ module _ (tables : List Catalogued) (variables : List Variable) (sound : Sound t
       (operand_kept scope Number (walk tables variables since closed) (walked tables variables sound [] closed closed_shows since))
       (λ value fit. ok_kept (λ it. ShowsIn [] it.source it.shape) (sourced (bound.Changes table.schema.id value) (shape alias (changes_columns table.schema)))
       (shows_in [] (bound.Changes table.schema.id value) (shape alias (changes_columns table.schema)) (changes_row table.schema) (changes_kinds table.schema)
-      (ap (λ test. if test then option_map changes_row (table_of (map (λ table. table.schema) tables) table.schema.id) else None) fit ∙ ap (option_map changes_row) here.there.found)
+      (ap (λ test. if test then option_map changes_row (tracked_of tables table.schema.id) else None) fit ∙ ap (option_map changes_row) here.found)
       (refl, (refl, (refl, (refl, (refl, types_are_values (key_columns table.schema))))))))))
 
   all_answered : (seen : List Kind) (place : Place) → Shows place seen → (all : List Expr) → AllAnswered (scope_of tables variables seen) (map (λ e. walk tables variables e place) all)
@@ -156,7 +156,7 @@ module _ (tables : List Catalogued) (variables : List Variable) (sound : Sound t
       })
       (λ version is. ok_kept (λ it. ShowsIn seen it.source it.shape) (sourced (bound.Version version) (shape from.alias (version_columns table.schema)))
       (shows_in seen (bound.Version version) (shape from.alias (version_columns table.schema)) (version_row table.schema) (version_kinds table.schema)
-      (ap (option_map version_row) is) (refl, (refl, types_are_values (key_columns table.schema)))))))
+      (ap (option_and_then (λ table. option_map version_row (tracked_of tables table.id))) is ∙ ap (option_map version_row) here.found) (refl, (refl, types_are_values (key_columns table.schema)))))))
 
   source_kept : (is_alone : Bool) (before : List Shape) (from : Source) → Kept (λ it. ShowsIn [] it.source it.shape) (one_source tables variables is_alone before from)
   unfolding one_source table_source

@@ -2,7 +2,7 @@
 -- project's own.
 use Rattle.std.specs.Prelude.{◌≡◌, true, List, [], ◌∷◌, ◌++◌, length, map, Option, Some, None, IfSome, if◌then◌else◌}
 use Rattle.std.specs.List.{AllByRecursion}
-use Rattle.std.specs.Option.{option_map}
+use Rattle.std.specs.Option.{option_map, option_and_then}
 use Rattle.ct_types.specs.declared.bound.BoundExpr.{BoundExpr}
 use Rattle.ct_types.specs.declared.bound.BoundSelect.{BoundSelect}
 use Rattle.ct_types.specs.declared.bound.BoundSource.{BoundSource}
@@ -17,7 +17,7 @@ use Rattle.ct_kinds.specs.declared.kind.Kind.TheVariants.{Number, Text, Bytes}
 use Rattle.ct_kinds.specs.Kinds.{kind_of_type}
 use Rattle.ct_kinds.specs.WellFormed.{Scope, table_of, table_of_version, kind_of, is_of, is_any_value}
 use Rattle.ct_bind_expr.specs.Versions.{key_columns}
-use Rattle.ct_bound_kinds.specs.Statements.{IsCondition, table_row, scope_of}
+use Rattle.ct_bound_kinds.specs.Statements.{IsCondition, tracked_of, table_row, scope_of}
 
 -- the kinds of the columns of a key, in key order
 abbrev pub key_row : Schema → List Kind
@@ -41,12 +41,13 @@ abbrev pub AreValues : Scope → List BoundExpr → Type 0
 AreValues scope exprs = AllByRecursion (λ expr. is_any_value (kind_of scope expr) ≡ true) exprs
 
 module _ (tables : List Catalogued) (variables : List Variable) where
-  -- the kinds of the columns of a source; None where it is not well formed
+  -- The kinds of the columns of a source; None where it is not well formed. CHANGETABLE names a tracked table.
   abbrev pub source_row : List Kind → BoundSource → Option (List Kind)
   source_row seen (Table id) = option_map table_row (table_of (map (λ table. table.schema) tables) id)
   source_row seen (Changes id since) =
-      if is_of Number (kind_of (scope_of tables variables []) since) then option_map changes_row (table_of (map (λ table. table.schema) tables) id) else None
-  source_row seen (Version version) = option_map version_row (table_of_version (scope_of tables variables seen) version)
+      if is_of Number (kind_of (scope_of tables variables []) since) then option_map changes_row (tracked_of tables id) else None
+  source_row seen (Version version) =
+      option_and_then (λ table. option_map version_row (tracked_of tables table.id)) (table_of_version (scope_of tables variables seen) version)
   source_row seen CommitTable = Some (Number ∷ Number ∷ Number ∷ [])
   source_row seen TrackingTables = Some (Number ∷ Number ∷ Number ∷ [])
 
