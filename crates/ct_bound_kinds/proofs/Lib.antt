@@ -11,6 +11,7 @@ pub mod Named
 pub mod Targets
 pub mod Writing
 pub mod Sourcing
+pub mod Joins
 pub mod Selecting
 pub mod Binding
 pub mod Sound

@@ -26,13 +26,14 @@ use Rattle.ct_bind.specs.Sources.{condition}
 use Rattle.ct_bind.specs.Queries.{item, columns_from, all_columns, columns_of, is_empty, item_name, outputs_from, shown_name, left_width, right_width, order_place, plan_of, one_item, bound_item, item_by, items_of, order_by, from_of, parts_of, select}
 use Rattle.ct_bound_kinds.specs.Laws.{Sound, Shows, StandsIn, row_kinds}
 use Rattle.ct_bound_kinds.specs.Statements.{IsCondition, scope_of}
-use Rattle.ct_bound_kinds.specs.Queries.{AreValues, IsSelect}
+use Rattle.ct_bound_kinds.specs.Queries.{JoinFits, AreValues, IsSelect}
 use Rattle.ct_bound_kinds.proofs.Lists.{all_append, all_front, all_back}
 use Rattle.ct_bound_kinds.proofs.Operators.{Kinded, value_operand}
 use Rattle.ct_bound_kinds.proofs.Columns.{stands_here, one_further, behind_one, next_source, this_source, source_further, spot_kinded}
-use Rattle.ct_bound_kinds.proofs.Kept.{Kept, here_kept, ok_kept, err_kept, then_kept, demand_kept, optional_kept, each_kept}
+use Rattle.ct_bound_kinds.proofs.Kept.{Kept, here_kept, ok_kept, err_kept, then_kept, demand_kept, optional_kept, each_kept, two_kept}
 use Rattle.ct_bound_kinds.proofs.Writing.{walked, condition_kept}
 use Rattle.ct_bound_kinds.proofs.Sourcing.{shape_row, left_row, right_row, AreValueKinds, row_shows, IsFrom, from_kept}
+use Rattle.ct_bound_kinds.proofs.Joins.{from_fits}
 
 -- ---- items
 
@@ -183,13 +184,16 @@ module _ (tables : List Catalogued) (variables : List Variable) (sound : Sound t
   pub select_kept : (it : Select) → Kept (IsSelect tables variables) (select tables variables it)
   unfolding select
   select_kept it =
-      then_kept (λ from. IsFrom tables variables sound from.left from.right from.join from.on from.shapes) (IsSelect tables variables) (from_of tables variables it.from) _ (from_kept tables variables sound it.from)
-      (λ from fine.
+      then_kept (λ from. IsFrom tables variables sound from.left from.right from.join from.on from.shapes × JoinFits from.join from.left from.right from.on) (IsSelect tables variables) (from_of tables variables it.from) _
+      (two_kept _ _ (from_of tables variables it.from) (from_kept tables variables sound it.from) (from_fits tables variables it.from))
+      (λ from both.
+      let fine = both.0 in
       let row : List Kind = left_row from.shapes ++ right_row from.shapes in
       let scope : Scope = scope_of tables variables row in
       then_kept (λ parts. AllByRecursion (λ it. Valued scope it.value) parts.items × IfSome parts.filter (IsCondition scope) × AllByRecursion (IsOrder (row ++ map (λ it. it.value.kind) parts.items)) parts.order)
       (IsSelect tables variables) (parts_of tables variables from.shapes it) _ (parts_kept from.shapes row fine.row refl fine.values it)
       (λ parts are. ok_kept (IsSelect tables variables) (record { left = from.left; right = from.right; plan = plan_of from parts }) (record {
+        shape = both.1;
         left = left_row from.shapes;
         right = right_row from.shapes;
         items = map (λ it. it.value.kind) parts.items;

@@ -8,7 +8,7 @@ use Rattle.ct_types.specs.declared.bound.BoundSelect.{BoundSelect}
 use Rattle.ct_types.specs.declared.bound.BoundSource.{BoundSource}
 use Rattle.ct_types.specs.declared.bound.BoundSource.TheVariants.{Table, Changes, Version, CommitTable, TrackingTables}
 use Rattle.ct_types.specs.declared.bound.Join.{Join}
-use Rattle.ct_types.specs.declared.bound.Join.TheVariants.{Apply}
+use Rattle.ct_types.specs.declared.bound.Join.TheVariants.{One, Inner, Left, Right, Apply}
 use Rattle.ct_types.specs.declared.catalogue.Catalogued.{Catalogued}
 use Rattle.ct_types.specs.declared.catalogue.Variable.{Variable}
 use Rattle.ct_types.specs.declared.schema.Schema.{Schema}
@@ -36,6 +36,21 @@ abbrev pub seen_by : Join → List Kind → List Kind
 seen_by Apply left = left
 seen_by join left = []
 
+-- a system table is no source of a join
+abbrev pub MayJoin : BoundSource → Type 0
+MayJoin CommitTable = ⊥
+MayJoin TrackingTables = ⊥
+MayJoin source = Unit {0}
+
+-- which sources a join has, and whether it has ON; a system table stands alone
+abbrev pub JoinFits : Join → Option BoundSource → Option BoundSource → Option BoundExpr → Type 0
+JoinFits One left None None = Unit {0}
+JoinFits Inner (Some left) (Some right) (Some on) = MayJoin left × MayJoin right
+JoinFits Left (Some left) (Some right) (Some on) = MayJoin left × MayJoin right
+JoinFits Right (Some left) (Some right) (Some on) = MayJoin left × MayJoin right
+JoinFits Apply (Some left) (Some (Version version)) None = MayJoin left
+JoinFits join left right on = ⊥
+
 -- each of them is a value on such a row
 abbrev pub AreValues : Scope → List BoundExpr → Type 0
 AreValues scope exprs = AllByRecursion (λ expr. is_any_value (kind_of scope expr) ≡ true) exprs
@@ -59,6 +74,7 @@ module _ (tables : List Catalogued) (variables : List Variable) where
   -- ON and WHERE are conditions on the joined row, and the items are values on it; ORDER BY stands on that row followed by the
   -- values of the items.
   pub record IsSelect (select : BoundSelect) : Type 0 where
+    pub shape : JoinFits select.plan.join select.left select.right select.plan.on
     pub left : List Kind
     pub right : List Kind
     pub items : List Kind
