@@ -122,13 +122,10 @@ module _ (tables : List Catalogued) (variables : List Variable) (sound : Sound t
       (λ _. after_kept (IsWellFormed tables variables) (demand (not (is_some (table_named tables (table_name name)))) (Exists (table_name name))) _
       (λ _. after_kept (IsWellFormed tables variables) (schema_of (length tables + 1) (table_name name) columns key) _ (λ schema. ok_kept (IsWellFormed tables variables) (CreateTable schema) tt))))
 
-  table_kept : (name : ObjectName) → Kept (IsThere tables) (existing_table tables name)
-  table_kept name = record { holds = λ table e. existing tables name table sound e }
-
   enable_kept : (keep : Option Keep) (name : ObjectName) (masks : Bool) → Kept (IsWellFormed tables variables) (enable tables keep name masks)
   unfolding enable
   enable_kept keep name masks =
-      then_kept (IsThere tables) (IsWellFormed tables variables) (existing_table tables name) _ (table_kept name)
+      then_kept (IsThere tables) (IsWellFormed tables variables) (existing_table tables name) _ (existing tables sound name)
       (λ table here. demand_kept (IsWellFormed tables variables) (not (is_some table.tracked)) (AlreadyTracked (table_name name)) _
       (λ free. after_kept (IsWellFormed tables variables) (demand (is_some keep) TrackingOff) _
       (λ _. ok_kept (IsWellFormed tables variables) (EnableTracking table.schema.id masks)
@@ -137,13 +134,13 @@ module _ (tables : List Catalogued) (variables : List Variable) (sound : Sound t
   disable_kept : (name : ObjectName) → Kept (IsWellFormed tables variables) (disable tables name)
   unfolding disable
   disable_kept name =
-      then_kept (IsThereTracked tables) (IsWellFormed tables variables) (tracked_table tables name) _ (record { holds = λ table e. tracked tables name table sound e })
+      then_kept (IsThereTracked tables) (IsWellFormed tables variables) (tracked_table tables name) _ (tracked tables sound name)
       (λ table here. ok_kept (IsWellFormed tables variables) (DisableTracking table.schema.id) (ap is_some here.found))
 
   truncate_kept : (name : ObjectName) → Kept (IsWellFormed tables variables) (truncate tables variables name)
   unfolding truncate
   truncate_kept name =
-      then_kept (IsThere tables) (IsWellFormed tables variables) (existing_table tables name) _ (table_kept name)
+      then_kept (IsThere tables) (IsWellFormed tables variables) (existing_table tables name) _ (existing tables sound name)
       (λ table here. ok_kept (IsWellFormed tables variables) (TruncateTable table.schema.id) (ap is_some here.stands))
 
   -- ---- the whole

@@ -112,7 +112,7 @@ module _ (tables : List Catalogued) (variables : List Variable) (sound : Sound t
   plain_kept : (before : List Shape) (from : TableSource) → Kept (λ it. ShowsIn [] it.source it.shape) (plain_sourced tables before from)
   unfolding plain_sourced
   plain_kept before from =
-      then_kept (IsThere tables) (λ it. ShowsIn [] it.source it.shape) (existing_table tables from.table) _ (record { holds = λ table e. existing tables from.table table sound e })
+      then_kept (IsThere tables) (λ it. ShowsIn [] it.source it.shape) (existing_table tables from.table) _ (existing tables sound from.table)
       (λ table here. after_kept (λ it. ShowsIn [] it.source it.shape) (unique before (source_name from)) _
       (λ _. ok_kept (λ it. ShowsIn [] it.source it.shape) (sourced (bound.Table table.schema.id) (shape (source_name from) (shown_columns table.schema.columns)))
       (shows_in [] (bound.Table table.schema.id) (shape (source_name from) (shown_columns table.schema.columns)) (table_row table.schema) (table_kinds table.schema.columns)
@@ -129,7 +129,7 @@ module _ (tables : List Catalogued) (variables : List Variable) (sound : Sound t
   unfolding changes_source
   changes_kept before name since alias =
       let scope : Scope = scope_of tables variables [] in
-      then_kept (IsThereTracked tables) (λ it. ShowsIn [] it.source it.shape) (tracked_table tables name) _ (record { holds = λ table e. tracked tables name table sound e })
+      then_kept (IsThereTracked tables) (λ it. ShowsIn [] it.source it.shape) (tracked_table tables name) _ (tracked tables sound name)
       (λ table here. after_kept (λ it. ShowsIn [] it.source it.shape) (unique before alias) _
       (λ _. then_kept (λ value. fits Number (kind_of scope value) ≡ true) (λ it. ShowsIn [] it.source it.shape) (walk tables variables since closed >>= of_kind Number) _
       (operand_kept scope Number (walk tables variables since closed) (walked tables variables sound [] closed closed_shows since))
@@ -146,7 +146,7 @@ module _ (tables : List Catalogued) (variables : List Variable) (sound : Sound t
   unfolding version_source
   version_kept before seen place from shows =
       let scope : Scope = scope_of tables variables seen in
-      then_kept (IsThereTracked tables) (λ it. ShowsIn seen it.source it.shape) (tracked_table tables from.version.table) _ (record { holds = λ table e. tracked tables from.version.table table sound e })
+      then_kept (IsThereTracked tables) (λ it. ShowsIn seen it.source it.shape) (tracked_table tables from.version.table) _ (tracked tables sound from.version.table)
       (λ table here. after_kept (λ it. ShowsIn seen it.source it.shape) (unique before from.alias) _
       (λ _. then_kept (λ version. table_of_version scope version ≡ Some table.schema) (λ it. ShowsIn seen it.source it.shape)
       (version_of table.schema from.version.columns (map (walk tables variables) from.version.values) place) _

@@ -36,6 +36,7 @@ use Rattle.ct_bind_expr.specs.Walked.{walked, scalar_with}
 use Rattle.ct_bound_kinds.specs.Laws.{HasKey, Sound}
 use Rattle.ct_bound_kinds.specs.Statements.{catalogued_of, tracked_of}
 use Rattle.ct_bound_kinds.proofs.Steps.{steps, passed, same_Ok, there}
+use Rattle.ct_bound_kinds.proofs.Kept.{Kept, ok_kept, then_kept, demand_kept}
 use Rattle.ct_bound_kinds.proofs.Lists.{all_found, all_mapped, all_pass, all_zip}
 use Rattle.ct_bound_kinds.proofs.Operators.{Kinded, Answered, AllAnswered, layer, fits, fits_operand}
 use Rattle.ct_bound_kinds.proofs.Columns.{stands_here, one_further, behind_one}
@@ -240,32 +241,33 @@ pub record IsThere (tables : List Catalogued) (table : Catalogued) : Type 0 wher
   pub found : table_of (map (λ table. table.schema) tables) table.schema.id ≡ Some table.schema
   pub has : HasKey table.schema
 
-pub existing : (tables : List Catalogued) (name : ObjectName) (table : Catalogued) → Sound tables → existing_table tables name ≡ Ok table → IsThere tables table
+pub existing : (tables : List Catalogued) → Sound tables → (name : ObjectName) → Kept (IsThere tables) (existing_table tables name)
 unfolding existing_table table_named
-existing tables name table sound e =
-    let test : Catalogued → Bool = λ table. same table.schema.name (table_name name) in
-    let is : find test tables ≡ Some table = there (find test tables) (NoObject (table_name name)) table e in
-    let own : catalogued_of tables table.schema.id ≡ Some table = stands test tables table sound.distinct is in
-    record {
-      stands = own;
-      found = schema_of tables table.schema.id ∙ ap (option_map (λ (table : Catalogued). table.schema)) own;
-      has = all_found (λ table. HasKey table.schema) test tables table sound.keys is;
-    }
+existing tables sound name = record {
+  holds = λ table e.
+      let test : Catalogued → Bool = λ table. same table.schema.name (table_name name) in
+      let is : find test tables ≡ Some table = there (find test tables) (NoObject (table_name name)) table e in
+      let own : catalogued_of tables table.schema.id ≡ Some table = stands test tables table sound.distinct is in
+      record {
+        stands = own;
+        found = schema_of tables table.schema.id ∙ ap (option_map (λ (table : Catalogued). table.schema)) own;
+        has = all_found (λ table. HasKey table.schema) test tables table sound.keys is;
+      };
+}
 
 pub record IsThereTracked (tables : List Catalogued) (table : Catalogued) : Type 0 where
   pub there : IsThere tables table
   pub found : tracked_of tables table.schema.id ≡ Some table.schema
 
-pub tracked : (tables : List Catalogued) (name : ObjectName) (table : Catalogued) → Sound tables → tracked_table tables name ≡ Ok table → IsThereTracked tables table
+pub tracked : (tables : List Catalogued) → Sound tables → (name : ObjectName) → Kept (IsThereTracked tables) (tracked_table tables name)
 unfolding tracked_table
-tracked tables name table sound e =
-    let p = steps (existing_table tables name) _ table e in
-    let q = passed _ (NotTracked (table_name name)) (Ok p.came) table p.goes in
-    let here : IsThere tables p.came = existing tables name p.came sound p.is in
-    subst (IsThereTracked tables) (same_Ok p.came table q.goes) (record {
+tracked tables sound name =
+    then_kept (IsThere tables) (IsThereTracked tables) (existing_table tables name) _ (existing tables sound name)
+    (λ table here. demand_kept (IsThereTracked tables) (is_some table.tracked) (NotTracked (table_name name)) _
+    (λ is. ok_kept (IsThereTracked tables) table (record {
       there = here;
-      found = ap (option_and_then (λ table. if is_some table.tracked then Some table.schema else None)) here.stands ∙ ap (λ test. if test then Some p.came.schema else None) q.holds;
-    })
+      found = ap (option_and_then (λ table. if is_some table.tracked then Some table.schema else None)) here.stands ∙ ap (λ test. if test then Some table.schema else None) is;
+    })))
 
 pub scalar_kinded : (s : Scope) (tables : List Catalogued) (scalar : Scalar) (answers : List (Answer Typed)) → Sound tables → s.tables ≡ map (λ table. table.schema) tables → AllAnswered s answers
     → Answered s (scalar_with tables scalar answers)
@@ -274,6 +276,6 @@ scalar_kinded s tables scalar answers sound are all it e =
     let shown = λ (table : Catalogued) (version : BoundRowVersion). scalar_column table.schema scalar.source scalar.alias scalar.column version in
     let p = steps (tracked_table tables scalar.version.table) (λ table. version_of table.schema scalar.version.columns (map walked answers) closed >>= (λ version. shown table version)) it e in
     let q = steps (version_of p.came.schema scalar.version.columns (map walked answers) closed) (λ version. shown p.came version) it p.goes in
-    let t = tracked tables scalar.version.table p.came sound p.is in
+    let t = (tracked tables sound scalar.version.table).holds p.came p.is in
     let found : table_of s.tables p.came.schema.id ≡ Some p.came.schema = ap (λ ts. table_of ts p.came.schema.id) are ∙ t.there.found in
     column_kinded s p.came.schema scalar.source scalar.alias scalar.column q.came t.there.has (version_kinded s p.came.schema scalar.version.columns answers q.came t.there.has found all q.is) it q.goes

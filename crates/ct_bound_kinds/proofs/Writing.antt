@@ -179,9 +179,6 @@ module _ (tables : List Catalogued) (variables : List Variable) (sound : Sound t
 
   -- ---- the whole
 
-  table_kept : (name : ObjectName) → Kept (IsThere tables) (existing_table tables name)
-  table_kept name = record { holds = λ table e. existing tables name table sound e }
-
   -- the table is there: what is left is the change
   then_change : (table : Catalogued) (context : Option BoundExpr) (change : Answer RowChange) → IsThere tables table → IfSome context (IsOf (scope_of tables variables []) Bytes)
       → Kept (IsChange tables variables table.schema) change → Kept (IsWrite tables variables) (change >>= (λ change. Ok (write_to tables variables table.schema context change)))
@@ -192,7 +189,7 @@ module _ (tables : List Catalogued) (variables : List Variable) (sound : Sound t
   insert_well : (context : Option Expr) (name : ObjectName) (columns : Option (List (List ℕ))) (tuples : List (List Expr)) → Kept (IsWrite tables variables) (insert tables variables context name columns tuples)
   unfolding insert
   insert_well context name columns tuples =
-      then_kept (IsThere tables) (IsWrite tables variables) (existing_table tables name) _ (table_kept name)
+      then_kept (IsThere tables) (IsWrite tables variables) (existing_table tables name) _ (existing tables sound name)
       (λ table here. then_kept (λ found. IfSome found (IsOf (scope_of tables variables []) Bytes)) (IsWrite tables variables) (optional (context_of tables variables) context) _ (context_kept context)
       (λ context bytes. then_change table context (insert_change tables variables table.schema columns tuples) here bytes (insert_kept table.schema columns tuples)))
 
@@ -200,7 +197,7 @@ module _ (tables : List Catalogued) (variables : List Variable) (sound : Sound t
       → Kept (IsWrite tables variables) (update tables variables context name sets from filter)
   unfolding update
   update_well context name sets from filter some =
-      then_kept (IsThere tables) (IsWrite tables variables) (existing_table tables name) _ (table_kept name)
+      then_kept (IsThere tables) (IsWrite tables variables) (existing_table tables name) _ (existing tables sound name)
       (λ table here. after_kept (IsWrite tables variables) (updated_name name from) _
       (λ row. then_kept (λ found. IfSome found (IsOf (scope_of tables variables []) Bytes)) (IsWrite tables variables) (optional (context_of tables variables) context) _ (context_kept context)
       (λ context bytes. then_change table context (update_change tables variables table.schema (row_named row table.schema) sets filter) here bytes
@@ -209,7 +206,7 @@ module _ (tables : List Catalogued) (variables : List Variable) (sound : Sound t
   delete_well : (context : Option Expr) (name : ObjectName) (filter : Option Expr) → Kept (IsWrite tables variables) (delete tables variables context name filter)
   unfolding delete
   delete_well context name filter =
-      then_kept (IsThere tables) (IsWrite tables variables) (existing_table tables name) _ (table_kept name)
+      then_kept (IsThere tables) (IsWrite tables variables) (existing_table tables name) _ (existing tables sound name)
       (λ table here. then_kept (λ found. IfSome found (IsOf (scope_of tables variables []) Bytes)) (IsWrite tables variables) (optional (context_of tables variables) context) _ (context_kept context)
       (λ context bytes. then_change table context (delete_change tables variables (row_named (last_part name) table.schema) filter) here bytes
       (delete_kept table.schema (row_named (last_part name) table.schema) filter (row_shows (last_part name) table.schema))))
