@@ -1,5 +1,5 @@
--- Which bound queries are well formed: their sources, and the row on which each of their expressions is evaluated. This
--- project's own.
+-- Which bound queries are well formed: their sources, how these are joined, and the row on which each of their expressions
+-- is evaluated. This project's own.
 use Rattle.std.specs.Prelude.{◌≡◌, true, List, [], ◌∷◌, ◌++◌, length, map, Option, Some, None, IfSome, if◌then◌else◌}
 use Rattle.std.specs.List.{AllByRecursion}
 use Rattle.std.specs.Option.{option_map, option_and_then}

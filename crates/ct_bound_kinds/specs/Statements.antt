@@ -39,6 +39,7 @@ tracked_of tables id = option_and_then (λ table. if is_some table.tracked then 
 abbrev pub IsTable : List Catalogued → ℕ → Type 0
 IsTable tables id = IsSome (catalogued_of tables id)
 
+-- a tracked table has this id
 abbrev pub IsTracked : List Catalogued → ℕ → Type 0
 IsTracked tables id = IsSome (tracked_of tables id)
 

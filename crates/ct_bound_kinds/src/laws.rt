@@ -11,7 +11,8 @@ pub fn walked_are_well_formed()
 {}
 
 /// What a statement comes to is well formed: it names only tables, columns and variables that are there, and each expression
-/// has the kind that its place wants, on the row on which it is evaluated.
+/// has the kind that its place wants, on the row on which it is evaluated. Each column that is written stands once;
+/// CHANGETABLE in FROM and DISABLE name a tracked table, ENABLE one that is not; a join has the sources and the ON of its form.
 pub fn bound_are_well_formed()
     ensures { BoundAreWellFormed }
 {}
