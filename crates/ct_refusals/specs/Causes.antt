@@ -1,0 +1,218 @@
+-- The cause of each refusal of binding, told of the catalogue, the settings, the variables and the statement: nothing here says how binding
+-- goes through a statement. The forms are T-SQL's; the limits, the rules of a table and the refusals without a number are this project's own.
+use Rattle.std.specs.Prelude.{◌≡◌, ◌≢◌, ℕ, ◌<◌, ◌≤◌, ◌⊎◌, Bool, true, false, not, ◌&&◌, codes, List, [], ◌∷◌, length, Option, Some, None, is_some, IsSome, IsNone, IsTrue, IsFalse}
+use Rattle.std.specs.List.{list_all, position_from}
+use Rattle.std.specs.Option.{IsSomeAnd}
+use Rattle.ct_types.specs.declared.catalogue.Catalogued.{Catalogued}
+use Rattle.ct_types.specs.declared.catalogue.Variable.{Variable}
+use Rattle.ct_types.specs.declared.entry.Keep.{Keep}
+use Rattle.ct_types.specs.declared.refusal.Refusal.{Refusal}
+use Rattle.ct_types.specs.declared.refusal.Refusal.TheVariants.{NoColumn, NoObject, Exists, Overflow, NotTracked, AlreadyTracked, TrackingOff, TypeClash, BadRetention, TablesTracked, BadTable, Ambiguous, NoVariable, VariableExists, KeyUpdate, CountClash, TooMany}
+use Rattle.ct_types.specs.declared.schema.Schema.{Schema}
+use Rattle.ct_types.specs.declared.stmt.ColumnDef.{ColumnDef}
+use Rattle.ct_types.specs.declared.stmt.DatabaseOption.TheVariants as option
+use Rattle.ct_types.specs.declared.stmt.Retention.{Retention}
+use Rattle.ct_types.specs.declared.stmt.Stmt.{Stmt}
+use Rattle.ct_types.specs.declared.stmt.Stmt.TheVariants as stmt
+use Rattle.ct_types.specs.declared.stmt.TypeName.{TypeName}
+use Rattle.ct_types.specs.declared.stmt.TypeName.TheVariants as type
+use Rattle.ct_types.specs.declared.stmt.WriteStmt.TheVariants as write
+use Rattle.ct_names.specs.Catalogue.{table_named, system_table, is_declared}
+use Rattle.ct_names.specs.Names.{same, table_name}
+use Rattle.ct_names.specs.Numbers.{within}
+use Rattle.ct_define.specs.Definitions.{keys_written, is_there, is_repeated, has_clear_nulls, key_names, are_different, is_free_name, id_from, is_in_sys, tracked_count}
+use Rattle.ct_bind.specs.Writes.{target_from, is_key, is_set}
+
+-- ---- tables and variables of a name
+
+-- no table of the catalogue has the name
+abbrev pub IsNoTable : List Catalogued → List ℕ → Type 0
+IsNoTable tables name = IsNone (table_named tables name)
+
+-- a table of the catalogue has it
+abbrev pub IsTable : List Catalogued → List ℕ → Type 0
+IsTable tables name = IsSome (table_named tables name)
+
+-- and that table is tracked
+abbrev pub IsTracked : List Catalogued → List ℕ → Type 0
+IsTracked tables name = IsSomeAnd (table_named tables name) (λ table. IsSome table.tracked)
+
+-- or it is not
+abbrev pub IsUntracked : List Catalogued → List ℕ → Type 0
+IsUntracked tables name = IsSomeAnd (table_named tables name) (λ table. IsNone table.tracked)
+
+-- a variable of the name is declared
+abbrev pub IsVariable : List Variable → List ℕ → Type 0
+IsVariable variables name = IsTrue (is_declared variables name)
+
+-- or none is
+abbrev pub IsNoVariable : List Variable → List ℕ → Type 0
+IsNoVariable variables name = IsFalse (is_declared variables name)
+
+-- ---- NoObject: a table that is not there, or not where it may stand
+
+-- a SELECT of two sources
+abbrev pub Joins : Stmt → Type 0
+Joins (stmt.Select query) = IsSomeAnd query.from (λ from. IsSome from.join)
+Joins _ = ⊥
+
+-- a system table stands alone in FROM
+abbrev pub JoinsSystemTable : Stmt → List ℕ → Type 0
+JoinsSystemTable statement name = Joins statement × IsSome (system_table name)
+
+-- an UPDATE whose FROM names another table than the one that is updated, and this is its name
+abbrev pub UpdatesFromAnother : Stmt → List ℕ → Type 0
+UpdatesFromAnother (stmt.Write context (write.Update table sets from filter)) name =
+    IsSomeAnd from (λ source. (name ≡ table_name source.table) × IsFalse (same name (table_name table)))
+UpdatesFromAnother _ name = ⊥
+
+abbrev pub IsNoObject : List Catalogued → Stmt → List ℕ → Type 0
+IsNoObject tables statement name = IsNoTable tables name ⊎ (JoinsSystemTable statement name ⊎ UpdatesFromAnother statement name)
+
+-- ---- what the settings of the database refuse
+
+-- ENABLE of the table of this name
+abbrev pub Enables : Stmt → List ℕ → Type 0
+Enables (stmt.EnableTracking table masks) name = name ≡ table_name table
+Enables _ name = ⊥
+
+-- ALTER DATABASE .. CHANGE_TRACKING = ON
+abbrev pub SwitchesOn : Stmt → Type 0
+SwitchesOn (stmt.AlterDatabase database (option.TrackingOn options)) = Unit {0}
+SwitchesOn _ = ⊥
+
+-- ALTER DATABASE .. CHANGE_TRACKING = OFF
+abbrev pub SwitchesOff : Stmt → Type 0
+SwitchesOff (stmt.AlterDatabase database option.TrackingOff) = Unit {0}
+SwitchesOff _ = ⊥
+
+-- what is taken only while tracking is on: ENABLE, `= OFF` and `CHANGE_TRACKING (..)`
+abbrev pub NeedsTracking : Stmt → Type 0
+NeedsTracking (stmt.EnableTracking table masks) = Unit {0}
+NeedsTracking (stmt.AlterDatabase database option.TrackingOff) = Unit {0}
+NeedsTracking (stmt.AlterDatabase database (option.Tracking options)) = Unit {0}
+NeedsTracking _ = ⊥
+
+-- AlreadyTracked: the table is tracked; of the database, by that name, tracking is on
+abbrev pub IsAlreadyTracked : List Catalogued → Option Keep → Stmt → List ℕ → Type 0
+IsAlreadyTracked tables keep statement name =
+    (Enables statement name × IsTracked tables name) ⊎ ((name ≡ codes "database") × SwitchesOn statement × IsSome keep)
+
+-- TablesTracked: tracking is on, so many tables are tracked, and that is one at least
+abbrev pub KeepsTablesTracked : List Catalogued → Option Keep → Stmt → ℕ → Type 0
+KeepsTablesTracked tables keep statement count = SwitchesOff statement × IsSome keep × (count ≡ tracked_count tables) × (0 < count)
+
+-- the retention that ALTER DATABASE writes
+abbrev pub written_retention : Stmt → Option Retention
+written_retention (stmt.AlterDatabase database (option.TrackingOn options)) = options.retention
+written_retention (stmt.AlterDatabase database (option.Tracking options)) = options.retention
+written_retention _ = None
+
+-- BadRetention: its number is not from 1 to 2,147,483,647
+abbrev pub WritesBadRetention : Stmt → Type 0
+WritesBadRetention statement = IsSomeAnd (written_retention statement) (λ retention. IsNone (within 1 2147483647 retention.amount))
+
+-- ---- definitions
+
+-- CREATE TABLE
+abbrev pub IsCreate : Stmt → Type 0
+IsCreate (stmt.CreateTable table columns key) = Unit {0}
+IsCreate _ = ⊥
+
+-- CREATE TABLE of this name
+abbrev pub Creates : Stmt → List ℕ → Type 0
+Creates (stmt.CreateTable table columns key) name = name ≡ table_name table
+Creates _ name = ⊥
+
+-- the length of the type, where it has one, is within its bounds
+abbrev pub has_length : TypeName → Bool
+has_length type.Int = true
+has_length type.BigInt = true
+has_length (type.NVarChar digits) = is_some (within 1 4000 digits)
+has_length (type.VarBinary digits) = is_some (within 1 8000 digits)
+
+-- the names of the key are one, and it is that of a column of the table
+abbrev pub is_one_column : List ColumnDef → List (List ℕ) → Bool
+is_one_column columns [] = false
+is_one_column columns (name ∷ []) = is_some (id_from name 1 columns)
+is_one_column columns (name ∷ other ∷ more) = false
+
+-- Whether a definition keeps each rule, in the order of their numbers: there is a primary key; there are not two, no column is both NULL and
+-- NOT NULL, and none of the key is NULL; columns have different names, and no column of the key one that CHANGETABLE shows beside the key;
+-- each type has a length that it may have; the key is one column of the table; the schema is not `sys`.
+abbrev pub rules : List ℕ → List ColumnDef → Option (List (List ℕ)) → List Bool
+rules name columns key =
+    is_there (keys_written columns key)
+    ∷ (not (is_repeated (keys_written columns key)) && list_all (has_clear_nulls key) columns)
+    ∷ (are_different columns && list_all is_free_name (key_names columns key))
+    ∷ list_all (λ column. has_length column.kind) columns
+    ∷ is_one_column columns (key_names columns key)
+    ∷ not (is_in_sys name)
+    ∷ []
+
+-- BadTable: of a CREATE TABLE this is the least rule that is broken; a DECLARE breaks the one of types
+abbrev pub BreaksRule : Stmt → ℕ → Type 0
+BreaksRule (stmt.CreateTable table columns key) rule = position_from not 1 (rules (table_name table) columns key) ≡ Some rule
+BreaksRule (stmt.Declare variable type value) rule = (rule ≡ 4) × IsFalse (has_length type)
+BreaksRule _ rule = ⊥
+
+-- DECLARE of this name
+abbrev pub Declares : Stmt → List ℕ → Type 0
+Declares (stmt.Declare variable type value) name = name ≡ variable
+Declares _ name = ⊥
+
+-- ---- limits
+
+-- an INSERT of more than so many tuples
+abbrev pub InsertsMoreThan : Stmt → ℕ → Type 0
+InsertsMoreThan (stmt.Write context (write.Insert table columns tuples)) limit = limit < length tuples
+InsertsMoreThan _ limit = ⊥
+
+-- a CREATE TABLE of more than so many columns
+abbrev pub CreatesMoreThan : Stmt → ℕ → Type 0
+CreatesMoreThan (stmt.CreateTable table columns key) limit = limit < length columns
+CreatesMoreThan _ limit = ⊥
+
+-- TooMany: 1,000 tuples, 64 columns, 256 tables
+abbrev pub IsTooMany : List Catalogued → Stmt → ℕ → Type 0
+IsTooMany tables statement limit =
+    ((limit ≡ 1000) × InsertsMoreThan statement limit)
+    ⊎ (((limit ≡ 64) × CreatesMoreThan statement limit) ⊎ ((limit ≡ 256) × IsCreate statement × (limit ≤ length tables)))
+
+-- ---- KeyUpdate
+
+-- the name is that of a column of the key
+abbrev pub IsKeyColumn : Schema → List ℕ → Type 0
+IsKeyColumn table name = IsSomeAnd (target_from name 1 table.columns) (λ column. IsTrue (is_key table column.column))
+
+-- the SET list of an UPDATE sets a column of that name, which is one of the key of its table
+abbrev pub SetsKey : List Catalogued → Stmt → List ℕ → Type 0
+SetsKey tables (stmt.Write context (write.Update table sets from filter)) name =
+    IsTrue (is_set name sets) × IsSomeAnd (table_named tables (table_name table)) (λ found. IsKeyColumn found.schema name)
+SetsKey tables _ name = ⊥
+
+-- ---- the causes
+
+-- The cause of each refusal. Of a column that no source has, of one that several have, of kinds that do not go together and of a number that
+-- is too large nothing is said here: these hang on the place of an expression in its statement, and their causes are those of the rules for
+-- expressions. Any other refusal is none of binding's, and has no cause.
+module _ (tables : List Catalogued) (keep : Option Keep) (variables : List Variable) (statement : Stmt) where
+  abbrev pub HasCause : Refusal → Type 0
+  HasCause (NoObject name) = IsNoObject tables statement name
+  HasCause (Exists name) = Creates statement name × IsTable tables name
+  HasCause (NotTracked name) = IsUntracked tables name
+  HasCause (AlreadyTracked name) = IsAlreadyTracked tables keep statement name
+  HasCause TrackingOff = NeedsTracking statement × IsNone keep
+  HasCause (TablesTracked count) = KeepsTablesTracked tables keep statement count
+  HasCause BadRetention = WritesBadRetention statement
+  HasCause (BadTable rule) = BreaksRule statement rule
+  HasCause (NoVariable name) = IsNoVariable variables name
+  HasCause (VariableExists name) = Declares statement name × IsVariable variables name
+  HasCause (KeyUpdate name) = SetsKey tables statement name
+  HasCause (CountClash wanted got) = wanted ≢ got
+  HasCause (TooMany limit) = IsTooMany tables statement limit
+  HasCause (NoColumn name) = Unit {0}
+  HasCause (Ambiguous name) = Unit {0}
+  HasCause TypeClash = Unit {0}
+  HasCause Overflow = Unit {0}
+  HasCause _ = ⊥

@@ -1,0 +1,15 @@
+-- The law of the causes of refusals. This project's own.
+use Rattle.std.specs.Prelude.{◌≡◌, List, Option, Err}
+use Rattle.ct_types.specs.declared.catalogue.Catalogued.{Catalogued}
+use Rattle.ct_types.specs.declared.catalogue.Variable.{Variable}
+use Rattle.ct_types.specs.declared.entry.Keep.{Keep}
+use Rattle.ct_types.specs.declared.refusal.Refusal.{Refusal}
+use Rattle.ct_types.specs.declared.stmt.Stmt.{Stmt}
+use Rattle.ct_bind.specs.Binding.{binding}
+use Rattle.ct_refusals.specs.Causes.{HasCause}
+
+-- whatever binding refuses has its cause
+abbrev pub RefusalsHaveCauses : Type 0
+RefusalsHaveCauses =
+    (tables : List Catalogued) (keep : Option Keep) (variables : List Variable) (statement : Stmt) (refusal : Refusal)
+    → binding tables keep variables statement ≡ Err refusal → HasCause tables keep variables statement refusal
