@@ -1,5 +1,5 @@
 -- Whatever binding refuses has its cause: the forms of statements, one by one.
-use Rattle.std.proofs.Common.{ℕ, not, List, [], Option, is_some, inl, refl, sym, ap, subst}
+use Rattle.std.proofs.Common.{ℕ, not, List, [], ◌∷◌, ◌++◌, map, Option, is_some, inl, refl, sym, ap, subst}
 use Rattle.std.specs.Option.{IsSomeAnd}
 use Rattle.std.proofs.lemmas.Bool.{not-false}
 use Rattle.ct_types.specs.declared.catalogue.Catalogued.{Catalogued}
@@ -25,13 +25,15 @@ use Rattle.ct_bind_expr.specs.Places.{row_of}
 use Rattle.ct_bind.specs.Writes as writes
 use Rattle.ct_bind.specs.Writes.{write_of}
 use Rattle.ct_bind.specs.Binding.{kind_of_name, truncate, value_of, set_variable, declare, binding, binding_by}
+use Rattle.ct_refusals.specs.Mentions.{Mention, OfVariable, of_table, of_each, mentions, of_values, of_optional, of_select, of_updated, of_statement}
 use Rattle.ct_refusals.specs.Causes.{has_length, IsKeyColumn, HasCause}
 use Rattle.ct_refusals.specs.Laws.{RefusalsHaveCauses}
-use Rattle.ct_refusals.proofs.Caused.{Caused, ok_caused, weaker, then_caused, met_caused, found_caused, optional_caused}
+use Rattle.ct_refusals.proofs.Among.{Among, itself, left, right, first, rest}
+use Rattle.ct_refusals.proofs.Caused.{Caused, ok_caused, weaker, then_caused, met_caused, found_caused}
 use Rattle.ct_refusals.proofs.Expressions.{existing_explained, variable_explained}
 use Rattle.ct_refusals.proofs.Rules.{Breaks, type_caused}
 use Rattle.ct_refusals.proofs.Definitions.{create_caused, enable_caused, disable_caused, database_caused}
-use Rattle.ct_refusals.proofs.Refusals.{explained, kind_fine, select_fine, context_fine, insert_change_fine, updated_fine, update_change_fine, delete_change_fine}
+use Rattle.ct_refusals.proofs.Refusals.{explained, kind_fine, optional_fine, select_fine, context_fine, insert_change_fine, updated_fine, update_change_fine, delete_change_fine}
 
 module _ (tables : List Catalogued) (keep : Option Keep) (variables : List Variable) where
   -- ---- writes
@@ -41,18 +43,25 @@ module _ (tables : List Catalogued) (keep : Option Keep) (variables : List Varia
   unfolding writes.insert
   insert_caused context table columns tuples =
       let it : Stmt = stmt.Write context (write.Insert table columns tuples) in
-      then_caused _ _ (explained tables keep variables it _ (existing_explained tables variables table)) (λ found. then_caused _ _ (context_fine tables keep variables it context)
-      (λ _. then_caused _ _ (insert_change_fine tables keep variables it found.schema columns tuples (λ many. many)) (λ _. ok_caused _)))
+      let values : List Mention = of_each (map of_values tuples) in
+      let behind : Among (of_table table ∷ values) (of_statement it) = right (of_optional context) (of_table table ∷ values) (itself (of_statement it)) in
+      then_caused _ _ (explained tables keep variables it _ (existing_explained tables variables (of_statement it) table (first (of_table table) values behind)))
+      (λ found. then_caused _ _ (context_fine tables keep variables it context (left (of_optional context) (of_table table ∷ values) (itself (of_statement it))))
+      (λ _. then_caused _ _ (insert_change_fine tables keep variables it found.schema columns tuples (λ many. many) (rest (of_table table) values behind)) (λ _. ok_caused _)))
 
   update_caused : (context : Option Expr) (table : ObjectName) (sets : List SetColumn) (from : Option TableSource) (filter : Option Expr)
       → Caused (HasCause tables keep variables (stmt.Write context (write.Update table sets from filter))) (writes.update tables variables context table sets from filter)
   unfolding writes.update existing_table
   update_caused context table sets from filter =
       let it : Stmt = stmt.Write context (write.Update table sets from filter) in
-      found_caused (table_named tables (table_name table)) (NoObject (table_name table)) _ (λ none. inl (ap (λ o. is_some o) none))
-      (λ found is. then_caused _ _ (updated_fine tables keep variables it table from (λ name another. another))
-      (λ row. then_caused _ _ (context_fine tables keep variables it context)
-      (λ _. then_caused _ _ (update_change_fine tables keep variables it found.schema _ sets filter (λ name set of_key. (set, subst (λ o. IsSomeAnd o (λ (it : Catalogued). IsKeyColumn it.schema name)) (sym is) of_key)))
+      let values : List Mention = of_each (map (λ (set : SetColumn). mentions set.value) sets) ++ of_optional filter in
+      let behind : Among (of_table table ∷ (of_updated from ++ values)) (of_statement it) = right (of_optional context) (of_table table ∷ (of_updated from ++ values)) (itself (of_statement it)) in
+      let after : Among (of_updated from ++ values) (of_statement it) = rest (of_table table) (of_updated from ++ values) behind in
+      found_caused (table_named tables (table_name table)) (NoObject (table_name table)) _ (λ none. (first (of_table table) (of_updated from ++ values) behind, inl (ap (λ o. is_some o) none)))
+      (λ found is. then_caused _ _ (updated_fine tables keep variables it table from (λ name another. another) (left (of_updated from) values after))
+      (λ row. then_caused _ _ (context_fine tables keep variables it context (left (of_optional context) (of_table table ∷ (of_updated from ++ values)) (itself (of_statement it))))
+      (λ _. then_caused _ _ (update_change_fine tables keep variables it found.schema _ sets filter
+      (λ name set of_key. (set, subst (λ o. IsSomeAnd o (λ (it : Catalogued). IsKeyColumn it.schema name)) (sym is) of_key)) (right (of_updated from) values after))
       (λ _. ok_caused _))))
 
   delete_caused : (context : Option Expr) (table : ObjectName) (filter : Option Expr)
@@ -60,8 +69,10 @@ module _ (tables : List Catalogued) (keep : Option Keep) (variables : List Varia
   unfolding writes.delete
   delete_caused context table filter =
       let it : Stmt = stmt.Write context (write.Delete table filter) in
-      then_caused _ _ (explained tables keep variables it _ (existing_explained tables variables table)) (λ found. then_caused _ _ (context_fine tables keep variables it context)
-      (λ _. then_caused _ _ (delete_change_fine tables keep variables it _ filter) (λ _. ok_caused _)))
+      let behind : Among (of_table table ∷ of_optional filter) (of_statement it) = right (of_optional context) (of_table table ∷ of_optional filter) (itself (of_statement it)) in
+      then_caused _ _ (explained tables keep variables it _ (existing_explained tables variables (of_statement it) table (first (of_table table) (of_optional filter) behind)))
+      (λ found. then_caused _ _ (context_fine tables keep variables it context (left (of_optional context) (of_table table ∷ of_optional filter) (itself (of_statement it))))
+      (λ _. then_caused _ _ (delete_change_fine tables keep variables it _ filter (rest (of_table table) (of_optional filter) behind)) (λ _. ok_caused _)))
 
   write_caused : (context : Option Expr) (it : WriteStmt) → Caused (HasCause tables keep variables (stmt.Write context it)) (write_of tables variables context it)
   unfolding write_of
@@ -71,15 +82,17 @@ module _ (tables : List Catalogued) (keep : Option Keep) (variables : List Varia
 
   -- ---- variables
 
-  value_caused : (statement : Stmt) (kind : Kind) (value : Expr) → Caused (HasCause tables keep variables statement) (value_of tables variables kind value)
+  value_caused : (statement : Stmt) (kind : Kind) (value : Expr) → Among (mentions value) (of_statement statement) → Caused (HasCause tables keep variables statement) (value_of tables variables kind value)
   unfolding value_of
-  value_caused statement kind value = kind_fine tables keep variables statement kind (row_of []) value
+  value_caused statement kind value says = kind_fine tables keep variables statement kind (row_of []) value says
 
   set_variable_caused : (name : List ℕ) (value : Expr) → Caused (HasCause tables keep variables (stmt.SetVariable name value)) (set_variable tables variables name value)
   unfolding set_variable
   set_variable_caused name value =
       let it : Stmt = stmt.SetVariable name value in
-      then_caused _ _ (explained tables keep variables it _ (variable_explained tables variables name)) (λ found. then_caused _ _ (value_caused it (kind_of_type found.1) value) (λ _. ok_caused _))
+      let all : Among (OfVariable name ∷ mentions value) (of_statement it) = itself (of_statement it) in
+      then_caused _ _ (explained tables keep variables it _ (variable_explained tables variables (of_statement it) name (first (OfVariable name) (mentions value) all)))
+      (λ found. then_caused _ _ (value_caused it (kind_of_type found.1) value (rest (OfVariable name) (mentions value) all)) (λ _. ok_caused _))
 
   -- a type that is broken breaks the rule of types
   of_type : (name : List ℕ) (type : TypeName) (value : Option Expr) (refusal : Refusal) → Breaks 4 (has_length type) refusal → HasCause tables keep variables (stmt.Declare name type value) refusal
@@ -90,14 +103,14 @@ module _ (tables : List Catalogued) (keep : Option Keep) (variables : List Varia
   declare_caused name type value =
       let it : Stmt = stmt.Declare name type value in
       met_caused (not (is_declared variables name)) (VariableExists name) _ (λ there. (refl, not-false _ there))
-      (λ _. then_caused _ _ (optional_caused (value_of tables variables (kind_of_name type)) value (λ value. value_caused it (kind_of_name type) value))
+      (λ _. then_caused _ _ (optional_fine tables keep variables it (value_of tables variables (kind_of_name type)) value (itself (of_optional value)) (λ value says. value_caused it (kind_of_name type) value says))
       (λ _. then_caused _ _ (weaker (column_type type) (of_type name type value) (type_caused type)) (λ _. ok_caused _)))
 
   -- ---- the others
 
   truncate_caused : (name : ObjectName) → Caused (HasCause tables keep variables (stmt.TruncateTable name)) (truncate tables variables name)
   unfolding truncate
-  truncate_caused name = then_caused _ _ (explained tables keep variables (stmt.TruncateTable name) _ (existing_explained tables variables name)) (λ _. ok_caused _)
+  truncate_caused name = then_caused _ _ (explained tables keep variables (stmt.TruncateTable name) _ (existing_explained tables variables (of_table name ∷ []) name (first (of_table name) [] (itself (of_table name ∷ []))))) (λ _. ok_caused _)
 
   statement_caused : (it : Stmt) → Caused (HasCause tables keep variables it) (binding_by tables variables keep it)
   statement_caused (stmt.AlterDatabase name option) = database_caused tables variables name keep option
@@ -106,7 +119,7 @@ module _ (tables : List Catalogued) (keep : Option Keep) (variables : List Varia
   statement_caused (stmt.DisableTracking table) = disable_caused tables variables keep table
   statement_caused (stmt.TruncateTable table) = truncate_caused table
   statement_caused (stmt.Write context it) = then_caused _ _ (write_caused context it) (λ _. ok_caused _)
-  statement_caused (stmt.Select query) = then_caused _ _ (select_fine tables keep variables (stmt.Select query) query (λ joins. joins)) (λ _. ok_caused _)
+  statement_caused (stmt.Select query) = then_caused _ _ (select_fine tables keep variables (stmt.Select query) query (λ joins. joins) (itself (of_select query))) (λ _. ok_caused _)
   statement_caused stmt.Begin = ok_caused _
   statement_caused stmt.Commit = ok_caused _
   statement_caused stmt.Rollback = ok_caused _

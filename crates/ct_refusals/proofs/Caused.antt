@@ -2,7 +2,7 @@
 use Rattle.std.proofs.Common.{◌≡◌, Bool, true, false, List, [], ◌∷◌, ◌++◌, Option, Some, None, Ok, Err, refl, cond, subst}
 use Rattle.std.specs.List.{AllByRecursion}
 use Rattle.ct_types.specs.declared.refusal.Refusal.{Refusal}
-use Rattle.ct_types.specs.Answers.{Answer, ◌>>=◌, ◌>>◌, demand, or_refuse, optional, each, each_after}
+use Rattle.ct_types.specs.Answers.{Answer, ◌>>=◌, ◌>>◌, demand, or_refuse, each, each_after}
 
 pub record Caused {A : Type 0} (Cause : Refusal → Type 0) (answer : Answer A) : Type 0 where
   pub holds : (refusal : Refusal) → answer ≡ Err refusal → Cause refusal
@@ -50,10 +50,6 @@ pub found_caused : {A B : Type 0} {Cause : Refusal → Type 0} (o : Option A) (r
     → (o ≡ None → Cause refusal) → ((a : A) → o ≡ Some a → Caused Cause (next a)) → Caused Cause (or_refuse o refusal >>= next)
 found_caused (Some a) refusal next cause go = go a refl
 found_caused None refusal next cause go = err_caused refusal (cause refl)
-
-pub optional_caused : {A B : Type 0} {Cause : Refusal → Type 0} (step : A → Answer B) (o : Option A) → ((a : A) → Caused Cause (step a)) → Caused Cause (optional step o)
-optional_caused step None go = ok_caused None
-optional_caused step (Some a) go = then_caused (step a) (λ b. Ok (Some b)) (go a) (λ b. ok_caused (Some b))
 
 pub each_caused : {A B : Type 0} {Cause : Refusal → Type 0} (step : A → Answer B) (all : List A) → AllByRecursion (λ a. Caused Cause (step a)) all → Caused Cause (each step all)
 each_caused step [] go = ok_caused []

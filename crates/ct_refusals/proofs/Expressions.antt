@@ -1,6 +1,6 @@
 -- What look-ups and expressions refuse: each refusal has its cause in the catalogue and among the variables.
 use Rattle.std.proofs.Common.{◌≡◌, ◌≢◌, ℕ, ◌+◌, Bool, true, false, not, ◌||◌, ◌==◌, codes, List, [], ◌∷◌, length, Option, Some, None, IsNone, is_some, cond, inl, refl, sym, ap, subst, eq-eqb}
-use Rattle.std.specs.List.{AllByRecursion}
+use Rattle.std.specs.List.{Contains, AllByRecursion}
 use Rattle.std.specs.Option.{IsSomeAnd}
 use Rattle.ct_types.specs.declared.bound.BoundRowVersion.{BoundRowVersion}
 use Rattle.ct_types.specs.declared.catalogue.Catalogued.{Catalogued}
@@ -31,7 +31,8 @@ use Rattle.ct_bind_expr.specs.Versions as versions
 use Rattle.ct_bind_expr.specs.Versions.{Walk, operand, values, tuple, listed_kind, listed_kinds, kind_of_column, missing, none_missing, version_of, key_column_from, version_column}
 use Rattle.ct_bind_expr.specs.Walk as expr
 use Rattle.ct_bind_expr.specs.Walk.{TermWalk, two, both_of_kind, chain, further_term, sum}
-use Rattle.ct_refusals.specs.Causes.{IsNoTable, IsUntracked, IsNoVariable, HasCause}
+use Rattle.ct_refusals.specs.Mentions.{Mention, OfTable, OfVariable, OfNumber, of_table, of_statement}
+use Rattle.ct_refusals.specs.Causes.{HaveTooLarge, IsNoTable, IsUntracked, IsNoVariable, HasCause}
 use Rattle.ct_refusals.proofs.Caused.{Caused, ok_caused, err_caused, then_caused, demand_caused, met_caused, cond_caused, or_caused, found_caused, each_after_caused, of_all}
 
 -- no variable of the name was found, so none is declared
@@ -44,17 +45,17 @@ unfolding variable_from is_declared
 undeclared name at [] e = refl
 undeclared name at (variable ∷ more) e = undeclared_step (same variable.name name) (at, variable.kind) (variable_from name (at + 1) more) (is_declared more name) e (undeclared name (at + 1) more)
 
-module _ (tables : List Catalogued) (variables : List Variable) where
-  -- the causes that need no more than the catalogue and the variables
+module _ (tables : List Catalogued) (variables : List Variable) (mentioned : List Mention) where
+  -- the causes that need no more than the catalogue, the variables and what is mentioned
   abbrev pub OfNames : Refusal → Type 0
-  OfNames (NoObject name) = IsNoTable tables name
-  OfNames (NotTracked name) = IsUntracked tables name
-  OfNames (NoVariable name) = IsNoVariable variables name
+  OfNames (NoObject name) = Contains mentioned (OfTable name) × IsNoTable tables name
+  OfNames Overflow = HaveTooLarge mentioned
+  OfNames (NotTracked name) = Contains mentioned (OfTable name) × IsUntracked tables name
+  OfNames (NoVariable name) = Contains mentioned (OfVariable name) × IsNoVariable variables name
   OfNames (CountClash wanted got) = wanted ≢ got
   OfNames (NoColumn name) = Unit {0}
   OfNames (Ambiguous name) = Unit {0}
   OfNames TypeClash = Unit {0}
-  OfNames Overflow = Unit {0}
   OfNames _ = ⊥
 
   abbrev pub IsExplained : {A : Type 0} → Answer A → Type 0
@@ -62,27 +63,27 @@ module _ (tables : List Catalogued) (variables : List Variable) where
 
   -- ---- numbers and look-ups
 
-  literal_explained : (digits : List ℕ) → IsExplained (literal digits)
+  literal_explained : (digits : List ℕ) → Contains mentioned (OfNumber digits) → IsExplained (literal digits)
   unfolding literal
-  literal_explained digits = then_caused _ _ (or_caused _ Overflow (λ _. tt)) (λ n. ok_caused _)
+  literal_explained digits is = then_caused _ _ (or_caused _ Overflow (λ none. (digits, is, ap (λ o. is_some o) none))) (λ n. ok_caused _)
 
-  pub existing_explained : (name : ObjectName) → IsExplained (existing_table tables name)
+  pub existing_explained : (name : ObjectName) → Contains mentioned (of_table name) → IsExplained (existing_table tables name)
   unfolding existing_table
-  existing_explained name = or_caused _ (NoObject (table_name name)) (λ none. ap (λ o. is_some o) none)
+  existing_explained name is = or_caused _ (NoObject (table_name name)) (λ none. (is, ap (λ o. is_some o) none))
 
   -- a table that is not tracked is there, where it was looked up
   untracked : (name : ObjectName) (table : Catalogued) → table_named tables (table_name name) ≡ Some table → IsNone table.tracked → IsUntracked tables (table_name name)
   untracked name table found none = subst (λ o. IsSomeAnd o (λ (it : Catalogued). IsNone it.tracked)) (sym found) none
 
-  pub tracked_explained : (name : ObjectName) → IsExplained (tracked_table tables name)
+  pub tracked_explained : (name : ObjectName) → Contains mentioned (of_table name) → IsExplained (tracked_table tables name)
   unfolding tracked_table existing_table
-  tracked_explained name =
-      found_caused (table_named tables (table_name name)) (NoObject (table_name name)) _ (λ none. ap (λ o. is_some o) none)
-      (λ table found. met_caused _ (NotTracked (table_name name)) _ (λ none. untracked name table found none) (λ _. ok_caused _))
+  tracked_explained name is =
+      found_caused (table_named tables (table_name name)) (NoObject (table_name name)) _ (λ none. (is, ap (λ o. is_some o) none))
+      (λ table found. met_caused _ (NotTracked (table_name name)) _ (λ none. (is, untracked name table found none)) (λ _. ok_caused _))
 
-  pub variable_explained : (name : List ℕ) → IsExplained (declared_variable variables name)
+  pub variable_explained : (name : List ℕ) → Contains mentioned (OfVariable name) → IsExplained (declared_variable variables name)
   unfolding declared_variable
-  variable_explained name = or_caused _ (NoVariable name) (λ none. undeclared name 0 variables none)
+  variable_explained name is = or_caused _ (NoVariable name) (λ none. (is, undeclared name 0 variables none))
 
   -- ---- kinds and columns
 
@@ -265,22 +266,23 @@ module _ (tables : List Catalogued) (variables : List Variable) where
   unfolding expr.scalar_column
   scalar_column_explained table source alias column version = then_caused _ _ (demand_caused _ (NoColumn source) (λ _. tt)) (λ _. then_caused _ _ (version_column_explained table column) (λ _. ok_caused _))
 
-  pub number_explained : (digits : List ℕ) → IsExplained (expr.number_literal digits)
+  pub number_explained : (digits : List ℕ) → Contains mentioned (OfNumber digits) → IsExplained (expr.number_literal digits)
   unfolding expr.number_literal
-  number_explained digits = then_caused _ _ (literal_explained digits) (λ _. ok_caused _)
+  number_explained digits is = then_caused _ _ (literal_explained digits is) (λ _. ok_caused _)
 
-  pub variable_typed_explained : (name : List ℕ) → IsExplained (expr.variable tables variables name)
+  pub variable_typed_explained : (name : List ℕ) → Contains mentioned (OfVariable name) → IsExplained (expr.variable tables variables name)
   unfolding expr.variable
-  variable_typed_explained name = then_caused _ _ (variable_explained name) (λ _. ok_caused _)
+  variable_typed_explained name is = then_caused _ _ (variable_explained name is) (λ _. ok_caused _)
 
--- what needs no more is a cause, whatever the statement and the settings are
-pub widened : (tables : List Catalogued) (keep : Option Keep) (variables : List Variable) (statement : Stmt) (refusal : Refusal) → OfNames tables variables refusal → HasCause tables keep variables statement refusal
-widened tables keep variables statement (NoObject name) cause = inl cause
+-- what needs no more is a cause, whatever the settings are
+pub widened : (tables : List Catalogued) (keep : Option Keep) (variables : List Variable) (statement : Stmt) (refusal : Refusal)
+    → OfNames tables variables (of_statement statement) refusal → HasCause tables keep variables statement refusal
+widened tables keep variables statement (NoObject name) cause = (cause.0, inl cause.1)
+widened tables keep variables statement Overflow cause = cause
 widened tables keep variables statement (NotTracked name) cause = cause
 widened tables keep variables statement (NoVariable name) cause = cause
 widened tables keep variables statement (CountClash wanted got) cause = cause
 widened tables keep variables statement (NoColumn name) cause = tt
 widened tables keep variables statement (Ambiguous name) cause = tt
 widened tables keep variables statement TypeClash cause = tt
-widened tables keep variables statement Overflow cause = tt
 widened tables keep variables statement _ cause = absurd cause

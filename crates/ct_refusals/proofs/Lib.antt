@@ -1,3 +1,4 @@
+pub mod Among
 pub mod Caused
 pub mod Expressions
 pub mod Walked

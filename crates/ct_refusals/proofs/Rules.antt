@@ -1,6 +1,7 @@
 -- A refusal for a rule of a table's definition: that rule is broken, and each before it is kept.
 use Rattle.std.specs.List.{list_all, position_from}
 use Rattle.std.proofs.Common.{◌≡◌, ℕ, Bool, true, false, not, ◌&&◌, List, [], ◌∷◌, Option, Some, None, is_some, Ok, Err, refl, sym, ap, subst}
+use Rattle.std.proofs.Math.Bool.{and-false}
 use Rattle.ct_types.specs.declared.refusal.Refusal.{Refusal}
 use Rattle.ct_types.specs.declared.refusal.Refusal.TheVariants.{BadTable}
 use Rattle.ct_types.specs.declared.schema.ColType.{ColType}
@@ -63,18 +64,6 @@ came_from : {A B : Type 0} (first : Answer A) (next : A → Answer B) (b : B) �
 came_from (Ok a) next b e = (a, refl, e)
 came_from (Err refusal) next b e = absurd cc
 
-one_false : (a b : Bool) → a ≡ false → (a && b) ≡ false
-one_false true b e = absurd cc
-one_false false b e = refl
-
-other_false : (a b : Bool) → b ≡ false → (a && b) ≡ false
-other_false true b e = e
-other_false false b e = refl
-
-both_true : (a b : Bool) → a ≡ true → b ≡ true → (a && b) ≡ true
-both_true true b e f = f
-both_true false b e f = absurd cc
-
 abbrev have_lengths : List ColumnDef → Bool
 have_lengths columns = list_all (λ column. has_length column.kind) columns
 
@@ -82,8 +71,8 @@ types_caused : (key : Option (List (List ℕ))) (columns : List ColumnDef) → C
 unfolding defined_column
 types_caused key [] = ok_caused []
 types_caused key (column ∷ more) =
-    then_caused _ _ (then_caused _ _ (weaker (column_type column.kind) (λ refusal b. (b.0, one_false (has_length column.kind) (have_lengths more) b.1)) (type_caused column.kind)) (λ kind. ok_caused _))
-    (λ made. then_caused _ _ (weaker (each (defined_column key) more) (λ refusal b. (b.0, other_false (has_length column.kind) (have_lengths more) b.1)) (types_caused key more)) (λ _. ok_caused _))
+    then_caused _ _ (then_caused _ _ (weaker (column_type column.kind) (λ refusal b. (b.0, rw b.1)) (type_caused column.kind)) (λ kind. ok_caused _))
+    (λ made. then_caused _ _ (weaker (each (defined_column key) more) (λ refusal b. (b.0, rw b.1 (and-false (has_length column.kind)))) (types_caused key more)) (λ _. ok_caused _))
 
 lengths_kept : (key : Option (List (List ℕ))) (columns : List ColumnDef) (made : List Column) → each (defined_column key) columns ≡ Ok made → have_lengths columns ≡ true
 unfolding defined_column
@@ -92,7 +81,7 @@ lengths_kept key (column ∷ more) made e =
     let first = came_from (defined_column key column) (λ b. each (defined_column key) more >>= (λ all. Ok (b ∷ all))) made e in
     let kind = came_from (column_type column.kind) _ first.0 first.1 in
     let rest = came_from (each (defined_column key) more) (λ all. Ok (first.0 ∷ all)) made first.2 in
-    both_true (has_length column.kind) (have_lengths more) (length_kept column.kind kind.0 kind.1) (lengths_kept key more rest.0 rest.1)
+    rw (length_kept column.kind kind.0 kind.1, lengths_kept key more rest.0 rest.1)
 
 -- ---- the key
 

@@ -1,5 +1,5 @@
 -- Each refusal of a walk over an expression has its cause: by induction over the expression, one case for each form.
-use Rattle.std.proofs.Common.{◌≡◌, List, [], ◌∷◌, map, subst, sym}
+use Rattle.std.proofs.Common.{◌≡◌, List, [], ◌∷◌, ◌++◌, map, subst, sym}
 use Rattle.std.specs.List.{AllByRecursion}
 use Rattle.ct_types.specs.declared.catalogue.Catalogued.{Catalogued}
 use Rattle.ct_types.specs.declared.catalogue.Variable.{Variable}
@@ -13,22 +13,24 @@ use Rattle.ct_types.specs.declared.expr.Term.{Term, roll-Term, map-Term}
 use Rattle.ct_kinds.specs.declared.kind.Kind.TheVariants.{Number, Condition}
 use Rattle.ct_bind_expr.specs.declared.place.Place.{Place}
 use Rattle.ct_bind_expr.specs.Versions.{Walk}
-use Rattle.ct_bind_expr.specs.Walk.{VersionWalk, TermWalk, expr_rule, version_rule, scalar_rule, term_rule, walk, version_walk, scalar_walk, term_walk}
+use Rattle.ct_bind_expr.specs.Walk.{VersionWalk, TermWalk, two, property, sum, expr_rule, version_rule, scalar_rule, term_rule, walk, version_walk, scalar_walk, term_walk}
+use Rattle.ct_refusals.specs.Mentions.{Mention, OfVariable, OfNumber, of_table, of_each, of_expr, of_version, of_scalar, of_term, mentions, version_mentions, scalar_mentions, term_mentions, of_values}
+use Rattle.ct_refusals.proofs.Among.{Among, left, right, first, rest}
 use Rattle.ct_refusals.proofs.Caused.{ok_caused, then_caused}
 use Rattle.ct_refusals.proofs.Expressions.{IsExplained, ExplainedAt, TermExplained, number_explained, variable_typed_explained, column_explained, min_valid_version_explained, column_in_mask_explained, object_id_explained, property_explained, if_null_explained, negative_explained, compare_explained, is_null_explained, is_not_null_explained, negated_explained, two_explained, chain_explained, sum_explained, version_of_explained, scalar_column_explained, tracked_explained}
 
 module _ (tables : List Catalogued) (variables : List Variable) where
   abbrev OfExpr : Expr → Type 0
-  OfExpr e = ExplainedAt tables variables (walk tables variables e)
+  OfExpr e = (mentioned : List Mention) → Among (mentions e) mentioned → ExplainedAt tables variables mentioned (walk tables variables e)
 
   abbrev OfVersion : RowVersion → Type 0
-  OfVersion v = (place : Place) → IsExplained tables variables (version_walk tables variables v place)
+  OfVersion v = (mentioned : List Mention) → Among (version_mentions v) mentioned → (place : Place) → IsExplained tables variables mentioned (version_walk tables variables v place)
 
   abbrev OfScalar : Scalar → Type 0
-  OfScalar s = ExplainedAt tables variables (scalar_walk tables variables s)
+  OfScalar s = (mentioned : List Mention) → Among (scalar_mentions s) mentioned → ExplainedAt tables variables mentioned (scalar_walk tables variables s)
 
   abbrev OfTerm : Term → Type 0
-  OfTerm t = TermExplained tables variables (term_walk tables variables t)
+  OfTerm t = (mentioned : List Mention) → Among (term_mentions t) mentioned → TermExplained tables variables mentioned (term_walk tables variables t)
 
   -- parts, each with what is known of it
   abbrev E : Type 0
@@ -43,13 +45,19 @@ module _ (tables : List Catalogued) (variables : List Variable) where
   abbrev T : Type 0
   T = (t : Term) × OfTerm t
 
-  all_at : (parts : List E) → AllByRecursion (ExplainedAt tables variables) (map (walk tables variables) (map (λ p. p.0) parts))
-  all_at [] = tt
-  all_at (part ∷ more) = (part.1, all_at more)
+  all_at : (parts : List E) (mentioned : List Mention) → Among (of_each (map mentions (map (λ p. p.0) parts))) mentioned
+      → AllByRecursion (ExplainedAt tables variables mentioned) (map (walk tables variables) (map (λ p. p.0) parts))
+  all_at [] mentioned among = tt
+  all_at (part ∷ more) mentioned among =
+      (part.1 mentioned (left (mentions part.0) (of_each (map mentions (map (λ p. p.0) more))) among), all_at more mentioned (right (mentions part.0) (of_each (map mentions (map (λ p. p.0) more))) among))
 
-  all_terms : (parts : List T) → AllByRecursion (TermExplained tables variables) (map (term_walk tables variables) (map (λ p. p.0) parts))
-  all_terms [] = tt
-  all_terms (part ∷ more) = (part.1, all_terms more)
+  all_terms : (parts : List T) (mentioned : List Mention) → Among (of_each (map term_mentions (map (λ p. p.0) parts))) mentioned
+      → AllByRecursion (TermExplained tables variables mentioned) (map (term_walk tables variables) (map (λ p. p.0) parts))
+  all_terms [] mentioned among = tt
+  all_terms (part ∷ more) mentioned among = (
+    part.1 mentioned (left (term_mentions part.0) (of_each (map term_mentions (map (λ p. p.0) more))) among),
+    all_terms more mentioned (right (term_mentions part.0) (of_each (map term_mentions (map (λ p. p.0) more))) among),
+  )
 
   -- a form whose parts stand in their places
   abbrev of_parts : Expr-F Expr RowVersion Scalar Term → Walk
@@ -58,29 +66,54 @@ module _ (tables : List Catalogued) (variables : List Variable) where
   abbrev parts_of : Expr-F E V S T → Expr-F Expr RowVersion Scalar Term
   parts_of y = map-Expr E V S T Expr RowVersion Scalar Term (λ p. p.0) (λ p. p.0) (λ p. p.0) (λ p. p.0) y
 
-  form_explained : (y : Expr-F E V S T) → ExplainedAt tables variables (of_parts (parts_of y))
-  form_explained e.Null place = ok_caused _
-  form_explained (e.Number digits) place = number_explained tables variables digits
-  form_explained (e.Text text) place = ok_caused _
-  form_explained (e.Bytes bytes) place = ok_caused _
-  form_explained (e.Variable name) place = variable_typed_explained tables variables name
-  form_explained (e.Column name) place = column_explained tables variables place name
-  form_explained e.CurrentVersion place = ok_caused _
-  form_explained (e.MinValidVersion table) place = then_caused _ _ (table.1 place) (min_valid_version_explained tables variables)
-  form_explained (e.IsColumnInMask column mask) place = then_caused _ _ (two_explained tables variables place _ _ column.1 mask.1) (λ both. column_in_mask_explained tables variables both.0 both.1)
-  form_explained (e.ObjectId name) place = then_caused _ _ (name.1 place) (object_id_explained tables variables)
-  form_explained (e.ColumnProperty table column name) place = property_explained tables variables place _ _ _ table.1 column.1 name.1
-  form_explained (e.IfNull value instead) place = then_caused _ _ (two_explained tables variables place _ _ value.1 instead.1) (λ both. if_null_explained tables variables both.0 both.1)
-  form_explained (e.Scalar scalar) place = scalar.1 place
-  form_explained (e.Negative value) place = then_caused _ _ (value.1 place) (negative_explained tables variables)
-  form_explained (e.Product factors) place = then_caused _ _ (chain_explained tables variables Number place _ (all_at factors)) (λ _. ok_caused _)
-  form_explained (e.Sum first more) place = then_caused _ _ (sum_explained tables variables place _ _ first.1 (all_terms more)) (λ _. ok_caused _)
-  form_explained (e.Compare operator left right) place = then_caused _ _ (two_explained tables variables place _ _ left.1 right.1) (λ both. compare_explained tables variables operator both.0 both.1)
-  form_explained (e.IsNull value) place = then_caused _ _ (value.1 place) (is_null_explained tables variables)
-  form_explained (e.IsNotNull value) place = then_caused _ _ (value.1 place) (is_not_null_explained tables variables)
-  form_explained (e.Not value) place = then_caused _ _ (value.1 place) (negated_explained tables variables)
-  form_explained (e.And operands) place = then_caused _ _ (chain_explained tables variables Condition place _ (all_at operands)) (λ _. ok_caused _)
-  form_explained (e.Or operands) place = then_caused _ _ (chain_explained tables variables Condition place _ (all_at operands)) (λ _. ok_caused _)
+  -- and what it mentions
+  abbrev form_mentions : Expr-F Expr RowVersion Scalar Term → List Mention
+  form_mentions x =
+      of_expr (map-Expr Expr RowVersion Scalar Term (List Mention) (List Mention) (List Mention) (List Mention) mentions version_mentions scalar_mentions term_mentions x)
+
+  two_at : (one other : E) (mentioned : List Mention) → Among (mentions one.0 ++ mentions other.0) mentioned → (place : Place)
+      → IsExplained tables variables mentioned (two place (walk tables variables one.0) (walk tables variables other.0))
+  two_at one other mentioned among place =
+      two_explained tables variables mentioned place _ _ (one.1 mentioned (left (mentions one.0) (mentions other.0) among)) (other.1 mentioned (right (mentions one.0) (mentions other.0) among))
+
+  property_at : (table column name : E) (mentioned : List Mention) → Among ((mentions table.0 ++ mentions column.0) ++ mentions name.0) mentioned → (place : Place)
+      → IsExplained tables variables mentioned (property place (walk tables variables table.0) (walk tables variables column.0) (walk tables variables name.0))
+  property_at table column name mentioned among place =
+      let both : Among (mentions table.0 ++ mentions column.0) mentioned = left (mentions table.0 ++ mentions column.0) (mentions name.0) among in
+      property_explained tables variables mentioned place _ _ _ (table.1 mentioned (left (mentions table.0) (mentions column.0) both)) (column.1 mentioned (right (mentions table.0) (mentions column.0) both))
+      (name.1 mentioned (right (mentions table.0 ++ mentions column.0) (mentions name.0) among))
+
+  sum_at : (one : E) (more : List T) (mentioned : List Mention) → Among (mentions one.0 ++ of_each (map term_mentions (map (λ p. p.0) more))) mentioned → (place : Place)
+      → IsExplained tables variables mentioned (sum place (walk tables variables one.0) (map (term_walk tables variables) (map (λ p. p.0) more)))
+  sum_at one more mentioned among place =
+      sum_explained tables variables mentioned place _ _ (one.1 mentioned (left (mentions one.0) (of_each (map term_mentions (map (λ p. p.0) more))) among))
+      (all_terms more mentioned (right (mentions one.0) (of_each (map term_mentions (map (λ p. p.0) more))) among))
+
+  form_explained : (y : Expr-F E V S T) (mentioned : List Mention) → Among (form_mentions (parts_of y)) mentioned → ExplainedAt tables variables mentioned (of_parts (parts_of y))
+  form_explained e.Null mentioned among place = ok_caused _
+  form_explained (e.Number digits) mentioned among place = number_explained tables variables mentioned digits (first (OfNumber digits) [] among)
+  form_explained (e.Text text) mentioned among place = ok_caused _
+  form_explained (e.Bytes bytes) mentioned among place = ok_caused _
+  form_explained (e.Variable name) mentioned among place = variable_typed_explained tables variables mentioned name (first (OfVariable name) [] among)
+  form_explained (e.Column name) mentioned among place = column_explained tables variables mentioned place name
+  form_explained e.CurrentVersion mentioned among place = ok_caused _
+  form_explained (e.MinValidVersion table) mentioned among place = then_caused _ _ (table.1 mentioned among place) (min_valid_version_explained tables variables mentioned)
+  form_explained (e.IsColumnInMask column mask) mentioned among place =
+      then_caused _ _ (two_at column mask mentioned among place) (λ both. column_in_mask_explained tables variables mentioned both.0 both.1)
+  form_explained (e.ObjectId name) mentioned among place = then_caused _ _ (name.1 mentioned among place) (object_id_explained tables variables mentioned)
+  form_explained (e.ColumnProperty table column name) mentioned among place = property_at table column name mentioned among place
+  form_explained (e.IfNull value instead) mentioned among place = then_caused _ _ (two_at value instead mentioned among place) (λ both. if_null_explained tables variables mentioned both.0 both.1)
+  form_explained (e.Scalar scalar) mentioned among place = scalar.1 mentioned among place
+  form_explained (e.Negative value) mentioned among place = then_caused _ _ (value.1 mentioned among place) (negative_explained tables variables mentioned)
+  form_explained (e.Product factors) mentioned among place = then_caused _ _ (chain_explained tables variables mentioned Number place _ (all_at factors mentioned among)) (λ _. ok_caused _)
+  form_explained (e.Sum one more) mentioned among place = then_caused _ _ (sum_at one more mentioned among place) (λ _. ok_caused _)
+  form_explained (e.Compare operator one other) mentioned among place =
+      then_caused _ _ (two_at one other mentioned among place) (λ both. compare_explained tables variables mentioned operator both.0 both.1)
+  form_explained (e.IsNull value) mentioned among place = then_caused _ _ (value.1 mentioned among place) (is_null_explained tables variables mentioned)
+  form_explained (e.IsNotNull value) mentioned among place = then_caused _ _ (value.1 mentioned among place) (is_not_null_explained tables variables mentioned)
+  form_explained (e.Not value) mentioned among place = then_caused _ _ (value.1 mentioned among place) (negated_explained tables variables mentioned)
+  form_explained (e.And operands) mentioned among place = then_caused _ _ (chain_explained tables variables mentioned Condition place _ (all_at operands mentioned among)) (λ _. ok_caused _)
+  form_explained (e.Or operands) mentioned among place = then_caused _ _ (chain_explained tables variables mentioned Condition place _ (all_at operands mentioned among)) (λ _. ok_caused _)
 
   -- the forms of a version, a scalar form and a term, whose parts stand in their places
   abbrev version_of_parts : RowVersion-F Expr RowVersion Scalar Term → VersionWalk
@@ -89,9 +122,16 @@ module _ (tables : List Catalogued) (variables : List Variable) where
   abbrev version_parts : RowVersion-F E V S T → RowVersion-F Expr RowVersion Scalar Term
   version_parts y = map-RowVersion E V S T Expr RowVersion Scalar Term (λ p. p.0) (λ p. p.0) (λ p. p.0) (λ p. p.0) y
 
-  version_form_explained : (y : RowVersion-F E V S T) (place : Place) → IsExplained tables variables (version_of_parts (version_parts y) place)
-  version_form_explained y place =
-      then_caused _ _ (tracked_explained tables variables y.table) (λ table. then_caused _ _ (version_of_explained tables variables table.schema y.columns _ place (all_at y.values)) (λ _. ok_caused _))
+  abbrev version_form_mentions : RowVersion-F Expr RowVersion Scalar Term → List Mention
+  version_form_mentions x =
+      of_version (map-RowVersion Expr RowVersion Scalar Term (List Mention) (List Mention) (List Mention) (List Mention) mentions version_mentions scalar_mentions term_mentions x)
+
+  version_form_explained : (y : RowVersion-F E V S T) (mentioned : List Mention) → Among (version_form_mentions (version_parts y)) mentioned
+      → (place : Place) → IsExplained tables variables mentioned (version_of_parts (version_parts y) place)
+  version_form_explained y mentioned among place =
+      let values : List Mention = of_each (map mentions (map (λ p. p.0) y.values)) in
+      then_caused _ _ (tracked_explained tables variables mentioned y.table (first (of_table y.table) values among))
+      (λ table. then_caused _ _ (version_of_explained tables variables mentioned table.schema y.columns _ place (all_at y.values mentioned (rest (of_table y.table) values among))) (λ _. ok_caused _))
 
   abbrev scalar_of_parts : Scalar-F Expr RowVersion Scalar Term → Walk
   scalar_of_parts x = scalar_rule tables variables (map-Scalar Expr RowVersion Scalar Term Walk VersionWalk Walk TermWalk (walk tables variables) (version_walk tables variables) (scalar_walk tables variables) (term_walk tables variables) x)
@@ -99,28 +139,14 @@ module _ (tables : List Catalogued) (variables : List Variable) where
   abbrev scalar_parts : Scalar-F E V S T → Scalar-F Expr RowVersion Scalar Term
   scalar_parts y = map-Scalar E V S T Expr RowVersion Scalar Term (λ p. p.0) (λ p. p.0) (λ p. p.0) (λ p. p.0) y
 
-  scalar_form_explained : (y : Scalar-F E V S T) (place : Place) → IsExplained tables variables (scalar_of_parts (scalar_parts y) place)
-  scalar_form_explained y place =
-      then_caused _ _ (y.version.1 place) (λ version. scalar_column_explained tables variables version.0 y.source y.alias y.column version.1)
+  abbrev scalar_form_mentions : Scalar-F Expr RowVersion Scalar Term → List Mention
+  scalar_form_mentions x =
+      of_scalar (map-Scalar Expr RowVersion Scalar Term (List Mention) (List Mention) (List Mention) (List Mention) mentions version_mentions scalar_mentions term_mentions x)
 
-  expr_case : (x : Expr-F Expr RowVersion Scalar Term) (y : Expr-F E V S T) → parts_of y ≡ x → OfExpr (roll-Expr x)
-  unfolding walk version_walk scalar_walk term_walk
-  expr_case x y is =
-      let opened : walk tables variables (roll-Expr x) ≡ of_parts x = fold-roll-Expr Walk VersionWalk Walk TermWalk (expr_rule tables variables) (version_rule tables variables) (scalar_rule tables variables) (term_rule tables variables) x in
-      subst (λ w. ExplainedAt tables variables w) (sym opened) (subst (λ z. ExplainedAt tables variables (of_parts z)) is (form_explained y))
-
-  version_case : (x : RowVersion-F Expr RowVersion Scalar Term) (y : RowVersion-F E V S T) → version_parts y ≡ x → OfVersion (roll-RowVersion x)
-  unfolding walk version_walk scalar_walk term_walk
-  version_case x y is =
-      let opened : version_walk tables variables (roll-RowVersion x) ≡ version_of_parts x = fold-roll-RowVersion Walk VersionWalk Walk TermWalk (expr_rule tables variables) (version_rule tables variables) (scalar_rule tables variables) (term_rule tables variables) x in
-      let P : VersionWalk → Type 0 = λ w. (place : Place) → IsExplained tables variables (w place) in
-      subst P (sym opened) (subst (λ z. P (version_of_parts z)) is (version_form_explained y))
-
-  scalar_case : (x : Scalar-F Expr RowVersion Scalar Term) (y : Scalar-F E V S T) → scalar_parts y ≡ x → OfScalar (roll-Scalar x)
-  unfolding walk version_walk scalar_walk term_walk
-  scalar_case x y is =
-      let opened : scalar_walk tables variables (roll-Scalar x) ≡ scalar_of_parts x = fold-roll-Scalar Walk VersionWalk Walk TermWalk (expr_rule tables variables) (version_rule tables variables) (scalar_rule tables variables) (term_rule tables variables) x in
-      subst (λ w. ExplainedAt tables variables w) (sym opened) (subst (λ z. ExplainedAt tables variables (scalar_of_parts z)) is (scalar_form_explained y))
+  scalar_form_explained : (y : Scalar-F E V S T) (mentioned : List Mention) → Among (scalar_form_mentions (scalar_parts y)) mentioned
+      → ExplainedAt tables variables mentioned (scalar_of_parts (scalar_parts y))
+  scalar_form_explained y mentioned among place =
+      then_caused _ _ (y.version.1 mentioned among place) (λ version. scalar_column_explained tables variables mentioned version.0 y.source y.alias y.column version.1)
 
   abbrev term_of_parts : Term-F Expr RowVersion Scalar Term → TermWalk
   term_of_parts x = term_rule tables variables (map-Term Expr RowVersion Scalar Term Walk VersionWalk Walk TermWalk (walk tables variables) (version_walk tables variables) (scalar_walk tables variables) (term_walk tables variables) x)
@@ -128,15 +154,49 @@ module _ (tables : List Catalogued) (variables : List Variable) where
   abbrev term_parts : Term-F E V S T → Term-F Expr RowVersion Scalar Term
   term_parts y = map-Term E V S T Expr RowVersion Scalar Term (λ p. p.0) (λ p. p.0) (λ p. p.0) (λ p. p.0) y
 
-  term_case : (x : Term-F Expr RowVersion Scalar Term) (y : Term-F E V S T) → term_parts y ≡ x → OfTerm (roll-Term x)
-  unfolding walk version_walk scalar_walk term_walk
-  term_case x y is =
-      let opened : term_walk tables variables (roll-Term x) ≡ term_of_parts x = fold-roll-Term Walk VersionWalk Walk TermWalk (expr_rule tables variables) (version_rule tables variables) (scalar_rule tables variables) (term_rule tables variables) x in
-      subst (λ w. TermExplained tables variables w) (sym opened) (subst (λ z. TermExplained tables variables (term_of_parts z)) is y.value.1)
+  abbrev term_form_mentions : Term-F Expr RowVersion Scalar Term → List Mention
+  term_form_mentions x =
+      of_term (map-Term Expr RowVersion Scalar Term (List Mention) (List Mention) (List Mention) (List Mention) mentions version_mentions scalar_mentions term_mentions x)
 
-  pub walk_explained : (e : Expr) (place : Place) → IsExplained tables variables (walk tables variables e place)
+  -- ---- one layer
+
+  expr_case : (x : Expr-F Expr RowVersion Scalar Term) (y : Expr-F E V S T) → parts_of y ≡ x → OfExpr (roll-Expr x)
+  unfolding walk version_walk scalar_walk term_walk mentions version_mentions scalar_mentions term_mentions
+  expr_case x y is mentioned among =
+      let opened : walk tables variables (roll-Expr x) ≡ of_parts x = fold-roll-Expr Walk VersionWalk Walk TermWalk (expr_rule tables variables) (version_rule tables variables) (scalar_rule tables variables) (term_rule tables variables) x in
+      let said : mentions (roll-Expr x) ≡ form_mentions x = fold-roll-Expr (List Mention) (List Mention) (List Mention) (List Mention) of_expr of_version of_scalar of_term x in
+      let P : Expr-F Expr RowVersion Scalar Term → Type 0 = λ z. Among (form_mentions z) mentioned → ExplainedAt tables variables mentioned (of_parts z) in
+      subst (λ w. ExplainedAt tables variables mentioned w) (sym opened) (subst P is (form_explained y mentioned) (subst (λ m. Among m mentioned) said among))
+
+  version_case : (x : RowVersion-F Expr RowVersion Scalar Term) (y : RowVersion-F E V S T) → version_parts y ≡ x → OfVersion (roll-RowVersion x)
+  unfolding walk version_walk scalar_walk term_walk mentions version_mentions scalar_mentions term_mentions
+  version_case x y is mentioned among =
+      let opened : version_walk tables variables (roll-RowVersion x) ≡ version_of_parts x = fold-roll-RowVersion Walk VersionWalk Walk TermWalk (expr_rule tables variables) (version_rule tables variables) (scalar_rule tables variables) (term_rule tables variables) x in
+      let said : version_mentions (roll-RowVersion x) ≡ version_form_mentions x = fold-roll-RowVersion (List Mention) (List Mention) (List Mention) (List Mention) of_expr of_version of_scalar of_term x in
+      let At : VersionWalk → Type 0 = λ w. (place : Place) → IsExplained tables variables mentioned (w place) in
+      let P : RowVersion-F Expr RowVersion Scalar Term → Type 0 = λ z. Among (version_form_mentions z) mentioned → At (version_of_parts z) in
+      subst At (sym opened) (subst P is (version_form_explained y mentioned) (subst (λ m. Among m mentioned) said among))
+
+  scalar_case : (x : Scalar-F Expr RowVersion Scalar Term) (y : Scalar-F E V S T) → scalar_parts y ≡ x → OfScalar (roll-Scalar x)
+  unfolding walk version_walk scalar_walk term_walk mentions version_mentions scalar_mentions term_mentions
+  scalar_case x y is mentioned among =
+      let opened : scalar_walk tables variables (roll-Scalar x) ≡ scalar_of_parts x = fold-roll-Scalar Walk VersionWalk Walk TermWalk (expr_rule tables variables) (version_rule tables variables) (scalar_rule tables variables) (term_rule tables variables) x in
+      let said : scalar_mentions (roll-Scalar x) ≡ scalar_form_mentions x = fold-roll-Scalar (List Mention) (List Mention) (List Mention) (List Mention) of_expr of_version of_scalar of_term x in
+      let P : Scalar-F Expr RowVersion Scalar Term → Type 0 = λ z. Among (scalar_form_mentions z) mentioned → ExplainedAt tables variables mentioned (scalar_of_parts z) in
+      subst (λ w. ExplainedAt tables variables mentioned w) (sym opened) (subst P is (scalar_form_explained y mentioned) (subst (λ m. Among m mentioned) said among))
+
+  term_case : (x : Term-F Expr RowVersion Scalar Term) (y : Term-F E V S T) → term_parts y ≡ x → OfTerm (roll-Term x)
+  unfolding walk version_walk scalar_walk term_walk mentions version_mentions scalar_mentions term_mentions
+  term_case x y is mentioned among =
+      let opened : term_walk tables variables (roll-Term x) ≡ term_of_parts x = fold-roll-Term Walk VersionWalk Walk TermWalk (expr_rule tables variables) (version_rule tables variables) (scalar_rule tables variables) (term_rule tables variables) x in
+      let said : term_mentions (roll-Term x) ≡ term_form_mentions x = fold-roll-Term (List Mention) (List Mention) (List Mention) (List Mention) of_expr of_version of_scalar of_term x in
+      let P : Term-F Expr RowVersion Scalar Term → Type 0 = λ z. Among (term_form_mentions z) mentioned → TermExplained tables variables mentioned (term_of_parts z) in
+      subst (λ w. TermExplained tables variables mentioned w) (sym opened) (subst P is (y.value.1 mentioned) (subst (λ m. Among m mentioned) said among))
+
+  pub walk_explained : (e : Expr) (mentioned : List Mention) → Among (mentions e) mentioned → ExplainedAt tables variables mentioned (walk tables variables e)
   walk_explained = ind-Expr OfExpr OfVersion OfScalar OfTerm expr_case version_case scalar_case term_case
 
-  pub walks_explained : (all : List Expr) → AllByRecursion (ExplainedAt tables variables) (map (walk tables variables) all)
-  walks_explained [] = tt
-  walks_explained (e ∷ more) = (walk_explained e, walks_explained more)
+  pub walks_explained : (values : List Expr) (mentioned : List Mention) → Among (of_values values) mentioned → AllByRecursion (ExplainedAt tables variables mentioned) (map (walk tables variables) values)
+  walks_explained [] mentioned among = tt
+  walks_explained (e ∷ more) mentioned among =
+      (walk_explained e mentioned (left (mentions e) (of_values more) among), walks_explained more mentioned (right (mentions e) (of_values more) among))

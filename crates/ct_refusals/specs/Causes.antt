@@ -1,7 +1,7 @@
 -- The cause of each refusal of binding, told of the catalogue, the settings, the variables and the statement: nothing here says how binding
 -- goes through a statement. The forms are T-SQL's; the limits, the rules of a table and the refusals without a number are this project's own.
 use Rattle.std.specs.Prelude.{◌≡◌, ◌≢◌, ℕ, ◌<◌, ◌≤◌, ◌⊎◌, Bool, true, false, not, ◌&&◌, codes, List, [], ◌∷◌, length, Option, Some, None, is_some, IsSome, IsNone, IsTrue, IsFalse}
-use Rattle.std.specs.List.{list_all, position_from}
+use Rattle.std.specs.List.{Contains, list_all, position_from}
 use Rattle.std.specs.Option.{IsSomeAnd}
 use Rattle.ct_types.specs.declared.catalogue.Catalogued.{Catalogued}
 use Rattle.ct_types.specs.declared.catalogue.Variable.{Variable}
@@ -22,6 +22,17 @@ use Rattle.ct_names.specs.Names.{same, table_name}
 use Rattle.ct_names.specs.Numbers.{within}
 use Rattle.ct_define.specs.Definitions.{keys_written, is_there, is_repeated, has_clear_nulls, key_names, are_different, is_free_name, id_from, is_in_sys, tracked_count}
 use Rattle.ct_bind.specs.Writes.{target_from, is_key, is_set}
+use Rattle.ct_refusals.specs.Mentions.{Mention, OfTable, OfVariable, OfNumber, of_statement}
+
+-- ---- what a statement mentions
+
+-- the statement mentions this
+abbrev pub Mentions : Stmt → Mention → Type 0
+Mentions statement mention = Contains (of_statement statement) mention
+
+-- Overflow: a number that is mentioned is above 9,223,372,036,854,775,807
+abbrev pub HaveTooLarge : List Mention → Type 0
+HaveTooLarge mentioned = (digits : List ℕ) × Contains mentioned (OfNumber digits) × IsNone (within 0 9223372036854775807 digits)
 
 -- ---- tables and variables of a name
 
@@ -193,20 +204,21 @@ SetsKey tables _ name = ⊥
 
 -- ---- the causes
 
--- The cause of each refusal. Of a column that no source has, of one that several have, of kinds that do not go together and of a number that
--- is too large nothing is said here: these hang on the place of an expression in its statement, and their causes are those of the rules for
--- expressions. Any other refusal is none of binding's, and has no cause.
+-- The cause of each refusal. Of a column that no source has, of one that several have and of kinds that do not go together nothing is said
+-- here: these hang on the place of an expression in its statement, and their causes are those of the rules for expressions. Any other
+-- refusal is none of binding's, and has no cause.
 module _ (tables : List Catalogued) (keep : Option Keep) (variables : List Variable) (statement : Stmt) where
   abbrev pub HasCause : Refusal → Type 0
-  HasCause (NoObject name) = IsNoObject tables statement name
+  HasCause (NoObject name) = Mentions statement (OfTable name) × IsNoObject tables statement name
   HasCause (Exists name) = Creates statement name × IsTable tables name
-  HasCause (NotTracked name) = IsUntracked tables name
+  HasCause Overflow = HaveTooLarge (of_statement statement)
+  HasCause (NotTracked name) = Mentions statement (OfTable name) × IsUntracked tables name
   HasCause (AlreadyTracked name) = IsAlreadyTracked tables keep statement name
   HasCause TrackingOff = NeedsTracking statement × IsNone keep
   HasCause (TablesTracked count) = KeepsTablesTracked tables keep statement count
   HasCause BadRetention = WritesBadRetention statement
   HasCause (BadTable rule) = BreaksRule statement rule
-  HasCause (NoVariable name) = IsNoVariable variables name
+  HasCause (NoVariable name) = Mentions statement (OfVariable name) × IsNoVariable variables name
   HasCause (VariableExists name) = Declares statement name × IsVariable variables name
   HasCause (KeyUpdate name) = SetsKey tables statement name
   HasCause (CountClash wanted got) = wanted ≢ got
@@ -214,5 +226,4 @@ module _ (tables : List Catalogued) (keep : Option Keep) (variables : List Varia
   HasCause (NoColumn name) = Unit {0}
   HasCause (Ambiguous name) = Unit {0}
   HasCause TypeClash = Unit {0}
-  HasCause Overflow = Unit {0}
   HasCause _ = ⊥
