@@ -1,6 +1,6 @@
 -- Whatever binding refuses has its cause: the forms of statements, one by one.
-use Rattle.std.proofs.Common.{ℕ, not, List, [], ◌∷◌, ◌++◌, map, Option, is_some, inl, refl, sym, ap, subst}
-use Rattle.std.specs.Option.{IsSomeAnd}
+use Rattle.std.proofs.Common.{length, ◌≡◌, ℕ, not, List, [], ◌∷◌, ◌++◌, map, Option, is_some, inl, refl, sym, ap, subst}
+use Rattle.std.specs.Option.{option_map, IsSomeAnd}
 use Rattle.std.proofs.lemmas.Bool.{not-false}
 use Rattle.ct_types.specs.declared.catalogue.Catalogued.{Catalogued}
 use Rattle.ct_types.specs.declared.catalogue.Variable.{Variable}
@@ -25,7 +25,7 @@ use Rattle.ct_bind_expr.specs.Places.{row_of}
 use Rattle.ct_bind.specs.Writes as writes
 use Rattle.ct_bind.specs.Writes.{write_of}
 use Rattle.ct_bind.specs.Binding.{kind_of_name, truncate, value_of, set_variable, declare, binding, binding_by}
-use Rattle.ct_refusals.specs.Mentions.{Mention, OfVariable, of_table, of_each, mentions, of_values, of_optional, of_select, of_updated, of_statement}
+use Rattle.ct_refusals.specs.Mentions.{Mention, OfVariable, of_table, of_each, mentions, of_tuple, of_optional, of_select, of_updated, of_statement}
 use Rattle.ct_refusals.specs.Causes.{has_length, IsKeyColumn, HasCause}
 use Rattle.ct_refusals.specs.Laws.{RefusalsHaveCauses}
 use Rattle.ct_refusals.proofs.Among.{Among, itself, left, right, first, rest}
@@ -40,14 +40,15 @@ module _ (tables : List Catalogued) (keep : Option Keep) (variables : List Varia
 
   insert_caused : (context : Option Expr) (table : ObjectName) (columns : Option (List (List ℕ))) (tuples : List (List Expr))
       → Caused (HasCause tables keep variables (stmt.Write context (write.Insert table columns tuples))) (writes.insert tables variables context table columns tuples)
-  unfolding writes.insert
+  unfolding writes.insert existing_table
   insert_caused context table columns tuples =
       let it : Stmt = stmt.Write context (write.Insert table columns tuples) in
-      let values : List Mention = of_each (map of_values tuples) in
+      let values : List Mention = of_each (map (of_tuple (option_map length columns)) tuples) in
       let behind : Among (of_table table ∷ values) (of_statement it) = right (of_optional context) (of_table table ∷ values) (itself (of_statement it)) in
-      then_caused _ _ (explained tables keep variables it _ (existing_explained tables variables (of_statement it) table (first (of_table table) values behind)))
-      (λ found. then_caused _ _ (context_fine tables keep variables it context (left (of_optional context) (of_table table ∷ values) (itself (of_statement it))))
-      (λ _. then_caused _ _ (insert_change_fine tables keep variables it found.schema columns tuples (λ many. many) (rest (of_table table) values behind)) (λ _. ok_caused _)))
+      found_caused (table_named tables (table_name table)) (NoObject (table_name table)) _ (λ none. (first (of_table table) values behind, inl (ap (λ o. is_some o) none)))
+      (λ found is. then_caused _ _ (context_fine tables keep variables it context (left (of_optional context) (of_table table ∷ values) (itself (of_statement it))))
+      (λ _. then_caused _ _ (insert_change_fine tables keep variables it found.schema columns tuples (λ many. many)
+      (subst (λ o. IsSomeAnd o (λ (it : Catalogued). length found.schema.columns ≡ length it.schema.columns)) (sym is) refl) (rest (of_table table) values behind)) (λ _. ok_caused _)))
 
   update_caused : (context : Option Expr) (table : ObjectName) (sets : List SetColumn) (from : Option TableSource) (filter : Option Expr)
       → Caused (HasCause tables keep variables (stmt.Write context (write.Update table sets from filter))) (writes.update tables variables context table sets from filter)

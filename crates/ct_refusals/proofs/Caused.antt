@@ -1,5 +1,5 @@
 -- An answer whose refusal, if it is one, has a cause, and the steps that keep it so.
-use Rattle.std.proofs.Common.{◌≡◌, Bool, true, false, List, [], ◌∷◌, ◌++◌, Option, Some, None, Ok, Err, refl, cond, subst}
+use Rattle.std.proofs.Common.{◌≡◌, suc, Bool, true, false, List, [], ◌∷◌, ◌++◌, length, Option, Some, None, Ok, Err, refl, sym, ap, ◌∙◌, cond, subst}
 use Rattle.std.specs.List.{AllByRecursion}
 use Rattle.ct_types.specs.declared.refusal.Refusal.{Refusal}
 use Rattle.ct_types.specs.Answers.{Answer, ◌>>=◌, ◌>>◌, demand, or_refuse, each, each_after}
@@ -67,3 +67,18 @@ each_after_caused step before (a ∷ more) go =
 pub of_all : {A : Type 0} (P : A → Type 0) (all : List A) → ((a : A) → P a) → AllByRecursion P all
 of_all P [] go = tt
 of_all P (a ∷ more) go = (go a, of_all P more go)
+
+-- what the two steps of a walk came to
+pub came_from : {A B : Type 0} (first : Answer A) (next : A → Answer B) (b : B) → (first >>= next) ≡ Ok b → (a : A) × (first ≡ Ok a) × (next a ≡ Ok b)
+came_from (Ok a) next b e = (a, refl, e)
+came_from (Err refusal) next b e = absurd cc
+
+-- a walk makes one for each
+pub each_after_length : {A B : Type 0} (step : List A → A → Answer B) (before all : List A) (made : List B) → each_after step before all ≡ Ok made → length made ≡ length all
+each_after_length step before [] [] e = refl
+each_after_length step before [] (b ∷ made) e = absurd cc
+each_after_length step before (a ∷ more) made e =
+    let one = came_from (step before a) (λ b. each_after step (before ++ a ∷ []) more >>= (λ made. Ok (b ∷ made))) made e in
+    let others = came_from (each_after step (before ++ a ∷ []) more) (λ made. Ok (one.0 ∷ made)) made one.2 in
+    let same : one.0 ∷ others.0 ≡ made = cc (others.2) in
+    ap length (sym same) ∙ ap suc (each_after_length step (before ++ a ∷ []) more others.0 others.1)

@@ -1,5 +1,5 @@
 -- What look-ups and expressions refuse: each refusal has its cause in the catalogue and among the variables.
-use Rattle.std.proofs.Common.{◌≡◌, ◌≢◌, ℕ, ◌+◌, Bool, true, false, not, ◌||◌, ◌==◌, codes, List, [], ◌∷◌, length, Option, Some, None, IsNone, is_some, cond, inl, refl, sym, ap, subst, eq-eqb}
+use Rattle.std.proofs.Common.{◌≡◌, ◌≢◌, ℕ, ◌+◌, Bool, true, false, not, ◌||◌, ◌==◌, codes, List, [], ◌∷◌, length, Option, Some, None, IsNone, is_some, Ok, cond, inl, refl, sym, ap, ◌∙◌, subst, eq-eqb}
 use Rattle.std.specs.List.{Contains, AllByRecursion}
 use Rattle.std.specs.Option.{IsSomeAnd}
 use Rattle.ct_types.specs.declared.bound.BoundRowVersion.{BoundRowVersion}
@@ -17,7 +17,7 @@ use Rattle.ct_types.specs.declared.schema.Schema.{Schema}
 use Rattle.ct_types.specs.declared.stmt.Stmt.{Stmt}
 use Rattle.ct_kinds.specs.declared.kind.Kind.{Kind}
 use Rattle.ct_kinds.specs.declared.kind.Kind.TheVariants.{Number, Text, Bytes, Condition}
-use Rattle.ct_types.specs.Answers.{Answer, demand, each}
+use Rattle.ct_types.specs.Answers.{Answer, each, each_after}
 use Rattle.ct_names.specs.Numbers.{literal}
 use Rattle.ct_names.specs.Names.{same, is_among, table_name}
 use Rattle.ct_names.specs.Catalogue.{table_named, existing_table, tracked_table, variable_from, declared_variable, is_declared}
@@ -31,9 +31,9 @@ use Rattle.ct_bind_expr.specs.Versions as versions
 use Rattle.ct_bind_expr.specs.Versions.{Walk, operand, values, tuple, listed_kind, listed_kinds, kind_of_column, missing, none_missing, version_of, key_column_from, version_column}
 use Rattle.ct_bind_expr.specs.Walk as expr
 use Rattle.ct_bind_expr.specs.Walk.{TermWalk, two, both_of_kind, chain, further_term, sum}
-use Rattle.ct_refusals.specs.Mentions.{Mention, OfTable, OfVariable, OfNumber, of_table, of_statement}
+use Rattle.ct_refusals.specs.Mentions.{Mention, OfTable, OfVariable, OfNumber, OfTuple, of_table, of_statement}
 use Rattle.ct_refusals.specs.Causes.{HaveTooLarge, IsNoTable, IsUntracked, IsNoVariable, HasCause}
-use Rattle.ct_refusals.proofs.Caused.{Caused, ok_caused, err_caused, then_caused, demand_caused, met_caused, cond_caused, or_caused, found_caused, each_after_caused, of_all}
+use Rattle.ct_refusals.proofs.Caused.{Caused, ok_caused, err_caused, then_caused, after_caused, came_from, each_after_length, demand_caused, met_caused, cond_caused, or_caused, found_caused, each_after_caused, of_all}
 
 -- no variable of the name was found, so none is declared
 undeclared_step : (found : Bool) (at : ℕ × ColType) (rest : Option (ℕ × ColType)) (more : Bool) → cond found (Some at) rest ≡ None → (rest ≡ None → more ≡ false) → (found || more) ≡ false
@@ -45,6 +45,18 @@ unfolding variable_from is_declared
 undeclared name at [] e = refl
 undeclared name at (variable ∷ more) e = undeclared_step (same variable.name name) (at, variable.kind) (variable_from name (at + 1) more) (is_declared more name) e (undeclared name (at + 1) more)
 
+pub differ : (got wanted : ℕ) → (got == wanted) ≡ false → wanted ≢ got
+differ got wanted e same = let t : (got == wanted) ≡ true = eq-eqb got wanted (sym same) in cc
+
+-- a list of columns has one kind for each
+kinds_length : (key : List Column) (names : List (List ℕ)) (kinds : List Kind) → listed_kinds key names ≡ Ok kinds → length kinds ≡ length names
+unfolding listed_kinds
+kinds_length key names kinds e =
+    let made = came_from (each_after (listed_kind key) [] names) _ kinds e in
+    let last = came_from (none_missing (missing key names)) _ kinds made.2 in
+    let same : made.0 ≡ kinds = cc (last.2) in
+    ap length (sym same) ∙ each_after_length (listed_kind key) [] names made.0 made.1
+
 module _ (tables : List Catalogued) (variables : List Variable) (mentioned : List Mention) where
   -- the causes that need no more than the catalogue, the variables and what is mentioned
   abbrev pub OfNames : Refusal → Type 0
@@ -52,7 +64,7 @@ module _ (tables : List Catalogued) (variables : List Variable) (mentioned : Lis
   OfNames Overflow = HaveTooLarge mentioned
   OfNames (NotTracked name) = Contains mentioned (OfTable name) × IsUntracked tables name
   OfNames (NoVariable name) = Contains mentioned (OfVariable name) × IsNoVariable variables name
-  OfNames (CountClash wanted got) = wanted ≢ got
+  OfNames (CountClash wanted got) = (wanted ≢ got) × Contains mentioned (OfTuple (Some wanted) got)
   OfNames (NoColumn name) = Unit {0}
   OfNames (Ambiguous name) = Unit {0}
   OfNames TypeClash = Unit {0}
@@ -217,19 +229,20 @@ module _ (tables : List Catalogued) (variables : List Variable) (mentioned : Lis
 
   -- ---- tuples and versions
 
-  counts_explained : (got wanted : ℕ) → IsExplained (demand (got == wanted) (CountClash wanted got))
-  counts_explained got wanted = demand_caused (got == wanted) (CountClash wanted got) (λ e same. let t : (got == wanted) ≡ true = eq-eqb got wanted (sym same) in cc)
-
-  values_explained : (place : Place) (kinds : List Kind) (walks : List Walk) → AllByRecursion ExplainedAt walks → IsExplained (values place kinds walks)
+  pub values_explained : (place : Place) (kinds : List Kind) (walks : List Walk) → AllByRecursion ExplainedAt walks → IsExplained (values place kinds walks)
   unfolding values
   values_explained place [] walks all = ok_caused []
   values_explained place (kind ∷ kinds) [] all = ok_caused []
   values_explained place (kind ∷ kinds) (walk ∷ walks) all =
       then_caused _ _ (operand_explained kind place walk (all.0 place)) (λ _. then_caused _ _ (values_explained place kinds walks all.1) (λ _. ok_caused _))
 
-  pub tuple_explained : (place : Place) (kinds : List Kind) (walks : List Walk) → AllByRecursion ExplainedAt walks → IsExplained (tuple place kinds walks)
+  -- a tuple of so many values, for a list of so many columns
+  tuple_explained : (place : Place) (kinds : List Kind) (walks : List Walk) (columns count : ℕ) → length kinds ≡ columns → length walks ≡ count → Contains mentioned (OfTuple (Some columns) count)
+      → AllByRecursion ExplainedAt walks → IsExplained (tuple place kinds walks)
   unfolding tuple
-  tuple_explained place kinds walks all = then_caused _ _ (counts_explained (length walks) (length kinds)) (λ _. values_explained place kinds walks all)
+  tuple_explained place kinds walks columns count wide long is all =
+      met_caused (length walks == length kinds) (CountClash (length kinds) (length walks)) _
+      (λ e. (differ (length walks) (length kinds) e, rw (wide, long) is)) (λ _. values_explained place kinds walks all)
 
   listed_kind_explained : (key : List Column) (before : List (List ℕ)) (name : List ℕ) → IsExplained (listed_kind key before name)
   unfolding listed_kind
@@ -246,10 +259,12 @@ module _ (tables : List Catalogued) (variables : List Variable) (mentioned : Lis
   listed_kinds_explained key names =
       then_caused _ _ (each_after_caused (listed_kind key) [] names (of_all (λ name. (before : List (List ℕ)) → IsExplained (listed_kind key before name)) names (λ name before. listed_kind_explained key before name))) (λ _. then_caused _ _ (none_missing_explained (missing key names)) (λ _. ok_caused _))
 
-  pub version_of_explained : (table : Schema) (names : List (List ℕ)) (walks : List Walk) (place : Place) → AllByRecursion ExplainedAt walks → IsExplained (version_of table names walks place)
+  pub version_of_explained : (table : Schema) (names : List (List ℕ)) (walks : List Walk) (place : Place) (count : ℕ) → length walks ≡ count
+      → Contains mentioned (OfTuple (Some (length names)) count) → AllByRecursion ExplainedAt walks → IsExplained (version_of table names walks place)
   unfolding version_of
-  version_of_explained table names walks place all =
-      then_caused _ _ (listed_kinds_explained (versions.key_columns table) names) (λ kinds. then_caused _ _ (tuple_explained place kinds walks all) (λ _. ok_caused _))
+  version_of_explained table names walks place count long is all =
+      after_caused (listed_kinds (versions.key_columns table) names) _ (listed_kinds_explained (versions.key_columns table) names)
+      (λ kinds made. then_caused _ _ (tuple_explained place kinds walks (length names) count (kinds_length (versions.key_columns table) names kinds made) long is all) (λ _. ok_caused _))
 
   key_column_from_explained : (name : List ℕ) (at : ℕ) (key : List Column) → IsExplained (key_column_from name at key)
   unfolding key_column_from
@@ -281,7 +296,7 @@ widened tables keep variables statement (NoObject name) cause = (cause.0, inl ca
 widened tables keep variables statement Overflow cause = cause
 widened tables keep variables statement (NotTracked name) cause = cause
 widened tables keep variables statement (NoVariable name) cause = cause
-widened tables keep variables statement (CountClash wanted got) cause = cause
+widened tables keep variables statement (CountClash wanted got) cause = (cause.0, (Some wanted, cause.1, refl))
 widened tables keep variables statement (NoColumn name) cause = tt
 widened tables keep variables statement (Ambiguous name) cause = tt
 widened tables keep variables statement TypeClash cause = tt

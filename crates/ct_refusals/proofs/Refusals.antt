@@ -1,17 +1,20 @@
 -- What FROM, SELECT, the writes and the statements on variables refuse: each refusal has its cause.
-use Rattle.std.proofs.Common.{◌≡◌, ◌<◌, ◌+◌, ℕ, nat_le, Bool, true, false, not, List, [], ◌∷◌, ◌++◌, length, map, Option, Some, None, Ok, IsSome, IsTrue, IsFalse, is_some, inl, inr, refl, ap, leb-false}
+use Rattle.std.proofs.Common.{◌≡◌, ◌<◌, ◌+◌, ℕ, nat_le, Bool, true, false, not, List, [], ◌∷◌, ◌++◌, length, map, Option, Some, None, Ok, IsSome, IsTrue, IsFalse, is_some, inl, inr, refl, ap, leb-false, suc, ◌==◌, sym, subst, ◌∙◌}
 use Rattle.std.specs.List.{AllByRecursion}
-use Rattle.std.specs.Option.{IsSomeAnd}
+use Rattle.std.specs.Option.{option_map, IsSomeAnd}
 use Rattle.std.proofs.Math.Bool.{or-true}
 use Rattle.std.proofs.lemmas.Bool.{not-false}
+use Rattle.std.proofs.lemmas.List.{length-map}
 use Rattle.std.proofs.lemmas.Slice.Eq.{bytes_eq-Decides}
 use Rattle.ct_types.specs.declared.bound.BoundSource.{BoundSource}
+use Rattle.ct_types.specs.declared.bound.RowChange.TheVariants.{Insert}
 use Rattle.ct_types.specs.declared.catalogue.Catalogued.{Catalogued}
 use Rattle.ct_types.specs.declared.catalogue.Variable.{Variable}
 use Rattle.ct_types.specs.declared.entry.Keep.{Keep}
 use Rattle.ct_types.specs.declared.expr.Expr.{Expr}
 use Rattle.ct_types.specs.declared.expr.ObjectName.{ObjectName}
-use Rattle.ct_types.specs.declared.refusal.Refusal.TheVariants.{NoColumn, NoObject, Ambiguous, KeyUpdate, TooMany, TypeClash}
+use Rattle.ct_types.specs.declared.refusal.Refusal.TheVariants.{NoColumn, NoObject, Ambiguous, CountClash, KeyUpdate, TooMany, TypeClash}
+use Rattle.ct_types.specs.declared.schema.Column.{Column}
 use Rattle.ct_types.specs.declared.schema.Schema.{Schema}
 use Rattle.ct_types.specs.declared.stmt.FromClause.{FromClause}
 use Rattle.ct_types.specs.declared.stmt.JoinClause.{JoinClause}
@@ -27,7 +30,7 @@ use Rattle.ct_types.specs.declared.stmt.Source.TheVariants as source
 use Rattle.ct_types.specs.declared.stmt.Stmt.{Stmt}
 use Rattle.ct_types.specs.declared.stmt.TableSource.{TableSource}
 use Rattle.ct_types.specs.declared.stmt.VersionSource.{VersionSource}
-use Rattle.ct_types.specs.Answers.{Answer, ◌>>=◌, optional}
+use Rattle.ct_types.specs.Answers.{Answer, ◌>>=◌, ◌>>◌, demand, optional, each, each_after}
 use Rattle.ct_kinds.specs.declared.kind.Kind.{Kind}
 use Rattle.ct_kinds.specs.declared.kind.Kind.TheVariants.{Number, Bytes, Condition}
 use Rattle.ct_names.specs.declared.catalogue.SystemTable.{SystemTable}
@@ -42,17 +45,23 @@ use Rattle.ct_bind_expr.specs.Versions.{tuple}
 use Rattle.ct_bind_expr.specs.Walk.{walk}
 use Rattle.ct_bind.specs.Sources.{source_name, unique, sourced, system_sourced, plain_sourced, table_by, table_source, condition, changes_source, version_source, one_source, joined_on, applied, joined_with, joined_by, joined}
 use Rattle.ct_bind.specs.Queries.{is_empty, columns_of, one_item, bound_item, items_of, order_by, order_place, parts_of, from_of, select}
-use Rattle.ct_bind.specs.Writes.{target_from, is_set, is_key, table_target, listed_target, insert_targets, set_target, updated_name, context_of, tuple_of, insert_change, set_of, update_change, delete_change}
-use Rattle.ct_refusals.specs.Mentions.{Mention, of_table, of_each, mentions, of_values, of_optional, of_row, of_source, of_join, of_from, of_item, of_select, of_updated, of_statement}
-use Rattle.ct_refusals.specs.Causes.{Joins, UpdatesFromAnother, InsertsMoreThan, IsKeyColumn, SetsKey, HasCause}
+use Rattle.ct_bind.specs.Writes.{targets_from, target_from, is_set, is_key, table_target, listed_target, insert_targets, set_target, updated_name, context_of, tuple_of, insert_change, set_of, update_change, delete_change}
+use Rattle.ct_refusals.specs.Mentions.{Mention, OfTuple, of_table, of_each, mentions, of_values, of_tuple, of_optional, of_row, of_source, of_join, of_from, of_item, of_select, of_updated, of_statement}
+use Rattle.ct_refusals.specs.Causes.{Joins, UpdatesFromAnother, InsertsMoreThan, InsertsInto, IsWanted, IsKeyColumn, SetsKey, HasCause}
 use Rattle.ct_refusals.proofs.Among.{Among, left, right, first, rest}
-use Rattle.ct_refusals.proofs.Caused.{Caused, ok_caused, err_caused, weaker, then_caused, demand_caused, met_caused, cond_caused, or_caused, found_caused, each_caused, each_after_caused, of_all}
-use Rattle.ct_refusals.proofs.Expressions.{IsExplained, widened, existing_explained, tracked_explained, of_kind_explained, any_value_explained, tuple_explained, version_of_explained}
+use Rattle.ct_refusals.proofs.Caused.{Caused, ok_caused, err_caused, weaker, then_caused, after_caused, each_after_length, demand_caused, met_caused, cond_caused, or_caused, found_caused, each_caused, each_after_caused, of_all}
+use Rattle.ct_refusals.proofs.Expressions.{IsExplained, widened, existing_explained, tracked_explained, of_kind_explained, any_value_explained, differ, values_explained, version_of_explained}
 use Rattle.ct_refusals.proofs.Walked.{walk_explained, walks_explained}
 
 same_itself : (name : List ℕ) → same name name ≡ true
 unfolding same
 same_itself name = (bytes_eq-Decides (folded name) (folded name)).1 refl
+
+-- the columns of a table have one kind each
+kinds_length : (id : ℕ) (columns : List Column) → length (map (λ column. column.kind) (targets_from id columns)) ≡ length columns
+unfolding targets_from
+kinds_length id [] = refl
+kinds_length id (column ∷ more) = ap suc (kinds_length (id + 1) more)
 
 module _ (tables : List Catalogued) (keep : Option Keep) (variables : List Variable) (statement : Stmt) where
   -- whatever is refused is refused for a cause of this statement
@@ -122,10 +131,14 @@ module _ (tables : List Catalogued) (keep : Option Keep) (variables : List Varia
   version_fine : (before : List Shape) (place : Place) (from : VersionSource) → Says (of_row from.version) → Fine (version_source tables variables before place from)
   unfolding version_source
   version_fine before place from says =
-      then_caused _ _ (explained _ (tracked_explained tables variables (of_statement statement) from.version.table (first (of_table from.version.table) (of_values from.version.values) says)))
+      let values : List Mention = of_values from.version.values in
+      let own : Mention = OfTuple (Some (length from.version.columns)) (length from.version.values) in
+      let behind : Says (own ∷ values) = rest (of_table from.version.table) (own ∷ values) says in
+      then_caused _ _ (explained _ (tracked_explained tables variables (of_statement statement) from.version.table (first (of_table from.version.table) (own ∷ values) says)))
       (λ table. then_caused _ _ (unique_fine before from.alias)
-      (λ _. then_caused _ _ (explained _ (version_of_explained tables variables (of_statement statement) table.schema _ _ place
-      (walks_explained tables variables from.version.values (of_statement statement) (rest (of_table from.version.table) (of_values from.version.values) says)))) (λ _. ok_caused _)))
+      (λ _. then_caused _ _ (explained _ (version_of_explained tables variables (of_statement statement) table.schema from.version.columns _ place (length from.version.values)
+      (length-map from.version.values (walk tables variables)) (first own values behind)
+      (walks_explained tables variables from.version.values (of_statement statement) (rest own values behind)))) (λ _. ok_caused _)))
 
   source_fine : (is_alone : Bool) (before : List Shape) (from : Source) → (is_alone ≡ false → Joins statement) → Says (of_source from) → Fine (one_source tables variables is_alone before from)
   unfolding one_source
@@ -224,27 +237,44 @@ module _ (tables : List Catalogued) (keep : Option Keep) (variables : List Varia
   listed_fine table before name =
       then_caused _ _ (target_fine table name) (λ column. then_caused _ _ (demand_caused (not (is_among name before)) (Ambiguous name) (λ _. tt)) (λ _. ok_caused column))
 
-  insert_targets_fine : (table : Schema) (columns : Option (List (List ℕ))) → Fine (insert_targets table columns)
-  unfolding insert_targets
-  insert_targets_fine table None = ok_caused _
-  insert_targets_fine table (Some names) =
-      each_after_caused (listed_target table) [] names (of_all (λ name. (before : List (List ℕ)) → Fine (listed_target table before name)) names (λ name before. listed_fine table before name))
+  row_fine : (kinds : List Kind) (columns : Option ℕ) (values : List Expr) → IsWanted tables statement columns (length kinds) → Says (of_tuple columns values)
+      → Fine (tuple closed kinds (map (walk tables variables) values))
+  unfolding tuple
+  row_fine kinds columns values wanted says =
+      let own : Mention = OfTuple columns (length values) in
+      let long : length (map (walk tables variables) values) ≡ length values = length-map values (walk tables variables) in
+      met_caused (length (map (walk tables variables) values) == length kinds) (CountClash (length kinds) (length (map (walk tables variables) values))) _
+      (λ e. (differ (length (map (walk tables variables) values)) (length kinds) e, (columns, rw long (first own (of_values values) says), wanted)))
+      (λ _. explained _ (values_explained tables variables (of_statement statement) closed kinds (map (walk tables variables) values)
+      (walks_explained tables variables values (of_statement statement) (rest own (of_values values) says))))
 
-  row_fine : (kinds : List Kind) (values : List Expr) → Says (of_values values) → Fine (tuple closed kinds (map (walk tables variables) values))
-  row_fine kinds values says = explained _ (tuple_explained tables variables (of_statement statement) closed kinds _ (walks_explained tables variables values (of_statement statement) says))
+  rows_fine : (kinds : List Kind) (columns : Option ℕ) (tuples : List (List Expr)) → IsWanted tables statement columns (length kinds) → Says (of_each (map (of_tuple columns) tuples))
+      → AllByRecursion (λ values. Fine (tuple closed kinds (map (walk tables variables) values))) tuples
+  rows_fine kinds columns [] wanted says = tt
+  rows_fine kinds columns (values ∷ more) wanted says = (
+    row_fine kinds columns values wanted (left (of_tuple columns values) (of_each (map (of_tuple columns) more)) says),
+    rows_fine kinds columns more wanted (right (of_tuple columns values) (of_each (map (of_tuple columns) more)) says),
+  )
 
-  rows_fine : (kinds : List Kind) (tuples : List (List Expr)) → Says (of_each (map of_values tuples)) → AllByRecursion (λ values. Fine (tuple closed kinds (map (walk tables variables) values))) tuples
-  rows_fine kinds [] says = tt
-  rows_fine kinds (values ∷ more) says =
-      (row_fine kinds values (left (of_values values) (of_each (map of_values more)) says), rows_fine kinds more (right (of_values values) (of_each (map of_values more)) says))
+  -- the columns are there: what is left are the tuples
+  tuples_fine : (ids : List ℕ) (kinds : List Kind) (columns : Option ℕ) (tuples : List (List Expr)) → (1000 < length tuples → InsertsMoreThan statement 1000)
+      → IsWanted tables statement columns (length kinds) → Says (of_each (map (of_tuple columns) tuples))
+      → Fine (demand (nat_le (length tuples) 1000) (TooMany 1000) >> (each (λ values. tuple closed kinds (map (walk tables variables) values)) tuples >>= (λ rows. Ok (Insert ids rows))))
+  tuples_fine ids kinds columns tuples many wanted says =
+      met_caused (nat_le (length tuples) 1000) (TooMany 1000) _ (λ over. inl (refl, many (leb-false (length tuples) 1000 over)))
+      (λ _. then_caused _ _ (each_caused (λ values. tuple closed kinds (map (walk tables variables) values)) tuples (rows_fine kinds columns tuples wanted says)) (λ _. ok_caused _))
 
+  -- without a list a tuple is to have a value for each column of the table
   pub insert_change_fine : (table : Schema) (columns : Option (List (List ℕ))) (tuples : List (List Expr)) → (1000 < length tuples → InsertsMoreThan statement 1000)
-      → Says (of_each (map of_values tuples)) → Fine (insert_change tables variables table columns tuples)
-  unfolding insert_change tuple_of
-  insert_change_fine table columns tuples many says =
-      then_caused _ _ (insert_targets_fine table columns)
-      (λ targets. met_caused (nat_le (length tuples) 1000) (TooMany 1000) _ (λ over. inl (refl, many (leb-false (length tuples) 1000 over)))
-      (λ _. then_caused _ _ (each_caused (tuple_of tables variables targets) tuples (rows_fine (map (λ column. column.kind) targets) tuples says)) (λ _. ok_caused _)))
+      → InsertsInto tables statement (length table.columns) → Says (of_each (map (of_tuple (option_map length columns)) tuples)) → Fine (insert_change tables variables table columns tuples)
+  unfolding insert_change insert_targets tuple_of
+  insert_change_fine table None tuples many into says =
+      tuples_fine _ (map (λ column. column.kind) (targets_from 1 table.columns)) None tuples many (subst (λ n. InsertsInto tables statement n) (sym (kinds_length 1 table.columns)) into) says
+  insert_change_fine table (Some names) tuples many into says =
+      after_caused (each_after (listed_target table) [] names) _
+      (each_after_caused (listed_target table) [] names (of_all (λ name. (before : List (List ℕ)) → Fine (listed_target table before name)) names (λ name before. listed_fine table before name)))
+      (λ targets made. tuples_fine _ (map (λ column. column.kind) targets) (Some (length names)) tuples many
+      (length-map targets (λ column. column.kind) ∙ each_after_length (listed_target table) [] names targets made) says)
 
   pub updated_fine : (table : ObjectName) (from : Option TableSource)
       → ((name : List ℕ) → IsSomeAnd from (λ source. (name ≡ table_name source.table) × IsFalse (same name (table_name table))) → UpdatesFromAnother statement name)

@@ -1,6 +1,6 @@
 -- A refusal for a rule of a table's definition: that rule is broken, and each before it is kept.
 use Rattle.std.specs.List.{list_all, position_from}
-use Rattle.std.proofs.Common.{◌≡◌, ℕ, Bool, true, false, not, ◌&&◌, List, [], ◌∷◌, Option, Some, None, is_some, Ok, Err, refl, sym, ap, subst}
+use Rattle.std.proofs.Common.{◌≡◌, ℕ, Bool, true, false, not, ◌&&◌, List, [], ◌∷◌, Option, Some, None, is_some, Ok, refl, sym, ap, subst}
 use Rattle.std.proofs.Math.Bool.{and-false}
 use Rattle.ct_types.specs.declared.refusal.Refusal.{Refusal}
 use Rattle.ct_types.specs.declared.refusal.Refusal.TheVariants.{BadTable}
@@ -13,7 +13,7 @@ use Rattle.ct_types.specs.Answers.{Answer, ◌>>=◌, ◌>>◌, demand, or_refus
 use Rattle.ct_names.specs.Numbers.{within, column_type}
 use Rattle.ct_define.specs.Definitions.{keys_written, is_there, is_repeated, has_clear_nulls, key_names, are_different, is_free_name, id_from, is_in_sys, first_rules, defined_column, key_id, schema_of}
 use Rattle.ct_refusals.specs.Causes.{has_length, is_one_column, rules}
-use Rattle.ct_refusals.proofs.Caused.{Caused, ok_caused, err_caused, weaker, then_caused, after_caused, demand_caused, met_caused, or_caused}
+use Rattle.ct_refusals.proofs.Caused.{Caused, ok_caused, err_caused, weaker, then_caused, after_caused, demand_caused, met_caused, or_caused, came_from}
 
 -- ---- one rule
 
@@ -59,10 +59,6 @@ length_kept type.Int made e = refl
 length_kept type.BigInt made e = refl
 length_kept (type.NVarChar digits) made e = some_length (within 1 4000 digits) (BadTable 4) _ made e
 length_kept (type.VarBinary digits) made e = some_length (within 1 8000 digits) (BadTable 4) _ made e
-
-came_from : {A B : Type 0} (first : Answer A) (next : A → Answer B) (b : B) → (first >>= next) ≡ Ok b → (a : A) × (first ≡ Ok a) × (next a ≡ Ok b)
-came_from (Ok a) next b e = (a, refl, e)
-came_from (Err refusal) next b e = absurd cc
 
 abbrev have_lengths : List ColumnDef → Bool
 have_lengths columns = list_all (λ column. has_length column.kind) columns

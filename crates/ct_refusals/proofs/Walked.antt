@@ -1,6 +1,7 @@
 -- Each refusal of a walk over an expression has its cause: by induction over the expression, one case for each form.
-use Rattle.std.proofs.Common.{◌≡◌, List, [], ◌∷◌, ◌++◌, map, subst, sym}
+use Rattle.std.proofs.Common.{◌≡◌, List, [], ◌∷◌, ◌++◌, length, map, Some, ◌∙◌, subst, sym}
 use Rattle.std.specs.List.{AllByRecursion}
+use Rattle.std.proofs.lemmas.List.{length-map}
 use Rattle.ct_types.specs.declared.catalogue.Catalogued.{Catalogued}
 use Rattle.ct_types.specs.declared.catalogue.Variable.{Variable}
 use Rattle.ct_types.specs.declared.expr.Expr.{Expr, roll-Expr, map-Expr}
@@ -14,7 +15,7 @@ use Rattle.ct_kinds.specs.declared.kind.Kind.TheVariants.{Number, Condition}
 use Rattle.ct_bind_expr.specs.declared.place.Place.{Place}
 use Rattle.ct_bind_expr.specs.Versions.{Walk}
 use Rattle.ct_bind_expr.specs.Walk.{VersionWalk, TermWalk, two, property, sum, expr_rule, version_rule, scalar_rule, term_rule, walk, version_walk, scalar_walk, term_walk}
-use Rattle.ct_refusals.specs.Mentions.{Mention, OfVariable, OfNumber, of_table, of_each, of_expr, of_version, of_scalar, of_term, mentions, version_mentions, scalar_mentions, term_mentions, of_values}
+use Rattle.ct_refusals.specs.Mentions.{Mention, OfVariable, OfNumber, OfTuple, of_table, of_each, of_expr, of_version, of_scalar, of_term, mentions, version_mentions, scalar_mentions, term_mentions, of_values}
 use Rattle.ct_refusals.proofs.Among.{Among, left, right, first, rest}
 use Rattle.ct_refusals.proofs.Caused.{ok_caused, then_caused}
 use Rattle.ct_refusals.proofs.Expressions.{IsExplained, ExplainedAt, TermExplained, number_explained, variable_typed_explained, column_explained, min_valid_version_explained, column_in_mask_explained, object_id_explained, property_explained, if_null_explained, negative_explained, compare_explained, is_null_explained, is_not_null_explained, negated_explained, two_explained, chain_explained, sum_explained, version_of_explained, scalar_column_explained, tracked_explained}
@@ -129,9 +130,13 @@ module _ (tables : List Catalogued) (variables : List Variable) where
   version_form_explained : (y : RowVersion-F E V S T) (mentioned : List Mention) → Among (version_form_mentions (version_parts y)) mentioned
       → (place : Place) → IsExplained tables variables mentioned (version_of_parts (version_parts y) place)
   version_form_explained y mentioned among place =
-      let values : List Mention = of_each (map mentions (map (λ p. p.0) y.values)) in
-      then_caused _ _ (tracked_explained tables variables mentioned y.table (first (of_table y.table) values among))
-      (λ table. then_caused _ _ (version_of_explained tables variables mentioned table.schema y.columns _ place (all_at y.values mentioned (rest (of_table y.table) values among))) (λ _. ok_caused _))
+      let values : List (List Mention) = map mentions (map (λ p. p.0) y.values) in
+      let own : Mention = OfTuple (Some (length y.columns)) (length values) in
+      let behind : Among (own ∷ of_each values) mentioned = rest (of_table y.table) (own ∷ of_each values) among in
+      let long : length (map (walk tables variables) (map (λ p. p.0) y.values)) ≡ length values = length-map (map (λ p. p.0) y.values) (walk tables variables) ∙ sym (length-map (map (λ p. p.0) y.values) mentions) in
+      then_caused _ _ (tracked_explained tables variables mentioned y.table (first (of_table y.table) (own ∷ of_each values) among))
+      (λ table. then_caused _ _ (version_of_explained tables variables mentioned table.schema y.columns _ place (length values) long (first own (of_each values) behind)
+      (all_at y.values mentioned (rest own (of_each values) behind))) (λ _. ok_caused _))
 
   abbrev scalar_of_parts : Scalar-F Expr RowVersion Scalar Term → Walk
   scalar_of_parts x = scalar_rule tables variables (map-Scalar Expr RowVersion Scalar Term Walk VersionWalk Walk TermWalk (walk tables variables) (version_walk tables variables) (scalar_walk tables variables) (term_walk tables variables) x)

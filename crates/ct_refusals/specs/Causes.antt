@@ -22,7 +22,7 @@ use Rattle.ct_names.specs.Names.{same, table_name}
 use Rattle.ct_names.specs.Numbers.{within}
 use Rattle.ct_define.specs.Definitions.{keys_written, is_there, is_repeated, has_clear_nulls, key_names, are_different, is_free_name, id_from, is_in_sys, tracked_count}
 use Rattle.ct_bind.specs.Writes.{target_from, is_key, is_set}
-use Rattle.ct_refusals.specs.Mentions.{Mention, OfTable, OfVariable, OfNumber, of_statement}
+use Rattle.ct_refusals.specs.Mentions.{Mention, OfTable, OfVariable, OfNumber, OfTuple, of_statement}
 
 -- ---- what a statement mentions
 
@@ -190,6 +190,22 @@ IsTooMany tables statement limit =
     ((limit ≡ 1000) × InsertsMoreThan statement limit)
     ⊎ (((limit ≡ 64) × CreatesMoreThan statement limit) ⊎ ((limit ≡ 256) × IsCreate statement × (limit ≤ length tables)))
 
+-- ---- CountClash
+
+-- an INSERT into a table of so many columns
+abbrev pub InsertsInto : List Catalogued → Stmt → ℕ → Type 0
+InsertsInto tables (stmt.Write context (write.Insert table columns tuples)) wanted = IsSomeAnd (table_named tables (table_name table)) (λ found. wanted ≡ length found.schema.columns)
+InsertsInto tables _ wanted = ⊥
+
+-- how many values a tuple is to have: one for each column of the list, and without a list one for each column of the table
+abbrev pub IsWanted : List Catalogued → Stmt → Option ℕ → ℕ → Type 0
+IsWanted tables statement (Some columns) wanted = wanted ≡ columns
+IsWanted tables statement None wanted = InsertsInto tables statement wanted
+
+-- a tuple has so many values, and is to have another number of them
+abbrev pub IsCountClash : List Catalogued → Stmt → ℕ → ℕ → Type 0
+IsCountClash tables statement wanted got = (wanted ≢ got) × ((columns : Option ℕ) × Mentions statement (OfTuple columns got) × IsWanted tables statement columns wanted)
+
 -- ---- KeyUpdate
 
 -- the name is that of a column of the key
@@ -221,7 +237,7 @@ module _ (tables : List Catalogued) (keep : Option Keep) (variables : List Varia
   HasCause (NoVariable name) = Mentions statement (OfVariable name) × IsNoVariable variables name
   HasCause (VariableExists name) = Declares statement name × IsVariable variables name
   HasCause (KeyUpdate name) = SetsKey tables statement name
-  HasCause (CountClash wanted got) = wanted ≢ got
+  HasCause (CountClash wanted got) = IsCountClash tables statement wanted got
   HasCause (TooMany limit) = IsTooMany tables statement limit
   HasCause (NoColumn name) = Unit {0}
   HasCause (Ambiguous name) = Unit {0}

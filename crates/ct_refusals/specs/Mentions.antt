@@ -1,5 +1,6 @@
--- What a statement mentions: the tables and the variables that it names, and its numbers.
-use Rattle.std.specs.Prelude.{ℕ, List, [], ◌∷◌, ◌++◌, map, Option, Some, None}
+-- What a statement mentions: the tables and the variables that it names, its numbers, and how long its tuples of values are.
+use Rattle.std.specs.Prelude.{ℕ, List, [], ◌∷◌, ◌++◌, length, map, Option, Some, None}
+use Rattle.std.specs.Option.{option_map}
 use Rattle.ct_types.specs.declared.expr.Expr.{Expr}
 use Rattle.ct_types.specs.declared.expr.Expr.TheOpen as e
 use Rattle.ct_types.specs.declared.expr.Expr.TheOpen.{Expr-F, RowVersion-F, Scalar-F, Term-F}
@@ -23,9 +24,10 @@ use Rattle.ct_types.specs.declared.stmt.WriteStmt.{WriteStmt}
 use Rattle.ct_types.specs.declared.stmt.WriteStmt.TheVariants as write
 use Rattle.ct_names.specs.Names.{table_name}
 
--- a table or a variable of a name, or a number of these digits
+-- a table or a variable of a name; a number of these digits; a tuple of so many values, for a list of so many columns where one is written
 pub data Mention : Type 0 where
   OfTable OfVariable OfNumber : List ℕ → Mention
+  OfTuple : Option ℕ → ℕ → Mention
 
 -- a table by its name as it is written
 abbrev pub of_table : ObjectName → Mention
@@ -59,7 +61,7 @@ of_expr (e.Or operands) = of_each operands
 of_expr _ = []
 
 abbrev pub of_version : {B C D : Type 0} → RowVersion-F (List Mention) B C D → List Mention
-of_version version = of_table version.table ∷ of_each version.values
+of_version version = of_table version.table ∷ OfTuple (Some (length version.columns)) (length version.values) ∷ of_each version.values
 
 abbrev pub of_scalar : {A C D : Type 0} → Scalar-F A (List Mention) C D → List Mention
 of_scalar scalar = scalar.version
@@ -90,9 +92,13 @@ of_optional (Some value) = mentions value
 
 -- ---- statements
 
+-- a tuple of values, for a list of so many columns
+abbrev pub of_tuple : Option ℕ → List Expr → List Mention
+of_tuple columns values = OfTuple columns (length values) ∷ of_values values
+
 -- the table and the values of CHANGETABLE(VERSION ..)
 abbrev pub of_row : RowVersion → List Mention
-of_row version = of_table version.table ∷ of_values version.values
+of_row version = of_table version.table ∷ of_tuple (Some (length version.columns)) version.values
 
 abbrev pub of_source : Source → List Mention
 of_source (source.Table from) = of_table from.table ∷ []
@@ -121,7 +127,7 @@ of_updated None = []
 of_updated (Some from) = of_table from.table ∷ []
 
 abbrev pub of_write : WriteStmt → List Mention
-of_write (write.Insert name columns tuples) = of_table name ∷ of_each (map of_values tuples)
+of_write (write.Insert name columns tuples) = of_table name ∷ of_each (map (of_tuple (option_map length columns)) tuples)
 of_write (write.Update name sets from filter) = of_table name ∷ (of_updated from ++ (of_each (map (λ set. mentions set.value) sets) ++ of_optional filter))
 of_write (write.Delete name filter) = of_table name ∷ of_optional filter
 
