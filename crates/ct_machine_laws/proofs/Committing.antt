@@ -28,7 +28,7 @@ use Rattle.ct_machine.specs.Decide.{answered, decide, decide_bound, once_bound}
 use Rattle.ct_machine.specs.Machine.{Machine, db_of}
 use Rattle.ct_machine.specs.Reads.{catalogue, selected}
 use Rattle.ct_machine.specs.Step.{act_draws, decision_of, entry_of}
-use Rattle.ct_machine_laws.specs.Laws.{CreatesCommitWell, EnablesCommitWell, SelectsCommitWell, SettingsCommitWell, WrongCommitsWell}
+use Rattle.ct_machine_laws.specs.Laws.{CreatesCommitWell, EnablesCommitWell, SelectsCommitWell, SettingsCommitWell, UnbuiltCommitsWell, WrongCommitsWell}
 use Rattle.ct_machine_laws.proofs.Soundness.{settled_commits, sound_is_valid}
 
 -- ---- what stands behind a statement that commits
@@ -116,6 +116,19 @@ wrong_decides db refusal act reply e = cc
 
 pub wrong_commits_well : WrongCommitsWell
 wrong_commits_well m refusal act reply e = absurd (wrong_decides (db_of m) refusal act reply (settled_commits m (decide (db_of m) (Wrong refusal)) act reply e).0)
+
+-- a form that is not built is refused
+refused : (test : Bool) (d : Decision) (act : Act) (reply : Reply) → test ≡ false → (if test then d else Refuses NotBuilt) ≡ Commits act reply → ⊥
+refused true d act reply unbuilt e = cc
+refused false d act reply unbuilt e = cc
+
+unbuilt_decides : (db : Db) (statement : Stmt) (act : Act) (reply : Reply) → is_built statement ≡ false → decide db (Sql statement) ≡ Commits act reply → ⊥
+unfolding decide
+unbuilt_decides db statement act reply unbuilt e = refused (is_built statement) (once_bound db (binding (catalogue db) db.keep [] statement)) act reply unbuilt e
+
+pub unbuilt_commits_well : UnbuiltCommitsWell
+unbuilt_commits_well m statement unbuilt act reply e =
+    absurd (unbuilt_decides (db_of m) statement act reply unbuilt (settled_commits m (decide (db_of m) (Sql statement)) act reply e).0)
 
 abbrev IsSelect : Bound → Type 0
 IsSelect (Selects query) = Unit {0}

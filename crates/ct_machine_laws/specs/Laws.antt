@@ -1,10 +1,8 @@
 -- What follows of steps and plays, of statements whose acts apply; and which statements these are. This project's own.
-use Rattle.std.specs.Prelude.{◌≡◌, ℕ, Bool, List, [], Option, Some, Ok}
-use Rattle.std.specs.List.{AllByRecursion}
+use Rattle.std.specs.Prelude.{◌≡◌, ℕ, Bool, false, List, [], Option, Some, Ok}
 use Rattle.ct_types.specs.declared.bound.Bound.TheVariants.{Write as Writes}
 use Rattle.ct_types.specs.declared.bound.BoundWrite.{BoundWrite}
 use Rattle.ct_types.specs.declared.entry.Act.{Act}
-use Rattle.ct_types.specs.declared.entry.Write.{Write}
 use Rattle.ct_types.specs.declared.expr.Expr.{Expr}
 use Rattle.ct_types.specs.declared.expr.ObjectName.{ObjectName}
 use Rattle.ct_types.specs.declared.refusal.Refusal.{Refusal}
@@ -12,18 +10,18 @@ use Rattle.ct_types.specs.declared.reply.Reply.{Reply}
 use Rattle.ct_types.specs.declared.stmt.ColumnDef.{ColumnDef}
 use Rattle.ct_types.specs.declared.stmt.DatabaseOption.{DatabaseOption}
 use Rattle.ct_types.specs.declared.stmt.Select.{Select}
+use Rattle.ct_types.specs.declared.stmt.Stmt.{Stmt}
 use Rattle.ct_types.specs.declared.stmt.Stmt.TheVariants as stmt
 use Rattle.ct_types.specs.declared.stmt.WriteStmt.{WriteStmt}
 use Rattle.ct_model.specs.declared.db.Db.{Db}
 use Rattle.ct_model.specs.declared.db.Table.{Table}
 use Rattle.ct_model.specs.Applies.{Applies, ApplyInTurn}
 use Rattle.ct_model.specs.Apply.{no_db}
-use Rattle.ct_model.specs.Tables.{catalogued, table_of}
+use Rattle.ct_model.specs.Tables.{table_of}
 use Rattle.ct_model.specs.Valid.{IsValid}
 use Rattle.ct_bind.specs.Binding.{binding}
-use Rattle.ct_write.specs.Fitting.{IsFit}
+use Rattle.ct_built.specs.Built.{is_built}
 use Rattle.ct_write.specs.Laws.{IsOfTable, IsOfKinds}
-use Rattle.ct_write.specs.Writes.{writes_of}
 use Rattle.ct_schema_laws.specs.Laws.{AreNames}
 use Rattle.ct_machine.specs.declared.command.Command.{Command}
 use Rattle.ct_machine.specs.declared.command.Command.TheVariants.{Sql, Wrong}
@@ -33,7 +31,7 @@ use Rattle.ct_machine.specs.Machine.{Machine, db_of, opening}
 use Rattle.ct_machine.specs.Play.{after, end_of}
 use Rattle.ct_machine.specs.Reads.{catalogue, world_of}
 use Rattle.ct_machine.specs.Step.{decision_of, entry_of}
-use Rattle.ct_machine_laws.specs.Sound.{IsSound, CommitsWell, EachCommitsWell}
+use Rattle.ct_machine_laws.specs.Sound.{IsSound, CommitsWell, EachCommitsWell, FitsOn}
 
 -- ---- sound machines
 
@@ -80,13 +78,16 @@ WrongCommitsWell = (m : Machine) (refusal : Refusal) → CommitsWell m (Wrong re
 abbrev pub SelectsCommitWell : Type 0
 SelectsCommitWell = (m : Machine) (query : Select) → CommitsWell m (Sql (stmt.Select query))
 
+-- nor does a sentence of a form that is not built
+abbrev pub UnbuiltCommitsWell : Type 0
+UnbuiltCommitsWell = (m : Machine) (statement : Stmt) → is_built statement ≡ false → CommitsWell m (Sql statement)
+
 -- what has to hold of a write that was bound, on the table as it stands: what binding promises of its columns and kinds, and
 -- that the rows that are written fit
 pub record IsAccepted (db : Db) (write : BoundWrite) (table : Table) : Type 0 where
   pub columns : IsOfTable table.schema write.change
   pub kinds : IsOfKinds (world_of db) table.schema table.rows write.change
-  pub fit : (writes : List Write) → writes_of (world_of db) (catalogued table) write table.rows ≡ Ok writes
-      → AllByRecursion (λ one. IsFit table.schema.columns one.row) writes
+  pub fit : FitsOn db write table
 
 -- INSERT, UPDATE and DELETE of which that holds
 abbrev pub WritesCommitWell : Type 0

@@ -1,15 +1,32 @@
 -- The machines that a run can come to. This project's own.
-use Rattle.std.specs.Prelude.{◌≤◌, ◌<◌, ◌^◌, ◌≡◌, List, [], ◌∷◌}
+use Rattle.std.specs.Prelude.{◌≤◌, ◌<◌, ◌^◌, ◌≡◌, true, List, [], ◌∷◌, Some, Ok}
+use Rattle.std.specs.List.{AllByRecursion}
+use Rattle.ct_types.specs.Answers.{Answer}
+use Rattle.ct_types.specs.declared.bound.Bound.{Bound}
+use Rattle.ct_types.specs.declared.bound.Bound.TheVariants.{Write as Writes}
+use Rattle.ct_types.specs.declared.bound.BoundWrite.{BoundWrite}
 use Rattle.ct_types.specs.declared.entry.Act.{Act}
+use Rattle.ct_types.specs.declared.entry.Write.{Write}
 use Rattle.ct_types.specs.declared.reply.Reply.{Reply}
+use Rattle.ct_model.specs.declared.db.Db.{Db}
+use Rattle.ct_model.specs.declared.db.Table.{Table}
 use Rattle.ct_model.specs.Applies.{ActApplies, ApplyInTurn}
+use Rattle.ct_model.specs.Tables.{catalogued, table_of}
 use Rattle.ct_model.specs.Valid.{IsValid}
+use Rattle.ct_bind.specs.Binding.{binding}
+use Rattle.ct_built.specs.Built.{is_built}
+use Rattle.ct_write.specs.Fitting.{IsFit}
+use Rattle.ct_write.specs.Writes.{writes_of}
 use Rattle.ct_machine.specs.declared.command.Command.{Command}
+use Rattle.ct_machine.specs.declared.command.Command.TheVariants.{Sql, Wrong}
 use Rattle.ct_machine.specs.declared.command.Journaled.{Journaled}
 use Rattle.ct_machine.specs.declared.decision.Decision.TheVariants.{Commits}
 use Rattle.ct_machine.specs.Machine.{Machine, db_of}
 use Rattle.ct_machine.specs.Play.{after}
+use Rattle.ct_machine.specs.Reads.{catalogue, world_of}
 use Rattle.ct_machine.specs.Step.{act_draws, decision_of, entry_of}
+
+-- ---- sound machines
 
 -- a sound machine: it began with a valid database, to which its entries apply in turn; its time is not before that of
 -- the last entry, and at most 2^62; and the next transaction's number is above every one that was given
@@ -20,6 +37,13 @@ pub record IsSound (m : Machine) : Type 0 where
   pub time_within : m.now ≤ 2 ^ 62
   pub next : (db_of m).last_xdes < m.next
 
+-- each machine that a play passes is sound: the first, the last, and those between
+abbrev pub StaySound : Machine → List Journaled → Type 0
+StaySound m [] = IsSound m
+StaySound m (one ∷ more) = IsSound m × StaySound (after m one.what one.reply) more
+
+-- ---- statements that commit well
+
 -- what a statement commits, if it does, is an act that applies to the machine's database
 abbrev pub CommitsWell : Machine → Command → Type 0
 CommitsWell m what = (act : Act) (reply : Reply) → decision_of m what ≡ Commits act reply → ActApplies (db_of m) (entry_of m act).version (act_draws (db_of m) act) act
@@ -28,3 +52,23 @@ CommitsWell m what = (act : Act) (reply : Reply) → decision_of m what ≡ Comm
 abbrev pub EachCommitsWell : Machine → List Journaled → Type 0
 EachCommitsWell m [] = Unit {0}
 EachCommitsWell m (one ∷ more) = CommitsWell m one.what × EachCommitsWell (after m one.what one.reply) more
+
+-- ---- rows that fit
+
+-- the rows that a write comes to on a table fit the table's columns
+abbrev pub FitsOn : Db → BoundWrite → Table → Type 0
+FitsOn db write table = (writes : List Write) → writes_of (world_of db) (catalogued table) write table.rows ≡ Ok writes
+    → AllByRecursion (λ one. IsFit table.schema.columns one.row) writes
+
+-- they fit its own table, where that is there
+abbrev pub WriteFits : Db → BoundWrite → Type 0
+WriteFits db write = (table : Table) → table_of db.tables write.table ≡ Some table → FitsOn db write table
+
+-- what binding answers is a write whose rows fit, or no write
+abbrev pub AnswerFits : Db → Answer Bound → Type 0
+AnswerFits db answer = (write : BoundWrite) → answer ≡ Ok (Writes write) → WriteFits db write
+
+-- the rows that a statement writes fit their table, where its form is built; a text that is no sentence writes none
+abbrev pub RowsFit : Db → Command → Type 0
+RowsFit db (Sql statement) = is_built statement ≡ true → AnswerFits db (binding (catalogue db) db.keep [] statement)
+RowsFit db (Wrong refusal) = Unit {0}

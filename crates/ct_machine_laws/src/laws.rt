@@ -1,5 +1,5 @@
 ghost use Rattle.ct_machine_laws.specs.Laws.{OpensSound, SoundIsValid, EntriesApply, StaysSound, PlaysKeepValid};
-ghost use Rattle.ct_machine_laws.specs.Laws.{SettingsCommitWell, CreatesCommitWell, EnablesCommitWell, WrongCommitsWell, SelectsCommitWell, WritesCommitWell};
+ghost use Rattle.ct_machine_laws.specs.Laws.{SettingsCommitWell, CreatesCommitWell, EnablesCommitWell, WrongCommitsWell, SelectsCommitWell, UnbuiltCommitsWell, WritesCommitWell};
 
 /// The opening of a valid database is sound.
 pub fn opens_sound()
@@ -49,6 +49,11 @@ pub fn wrong_commits_well()
 /// A SELECT commits nothing.
 pub fn selects_commit_well()
     ensures { SelectsCommitWell }
+{}
+
+/// A sentence of a form that is not built commits nothing.
+pub fn unbuilt_commits_well()
+    ensures { UnbuiltCommitsWell }
 {}
 
 /// What INSERT, UPDATE and DELETE commit applies, where binding keeps its promise of columns and kinds, and where the rows

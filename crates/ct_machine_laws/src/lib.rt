@@ -5,6 +5,6 @@ mod laws;
 
 pub use laws::{
     creates_commit_well, enables_commit_well, entries_apply, opens_sound, plays_keep_valid,
-    selects_commit_well, settings_commit_well, sound_is_valid, stays_sound, writes_commit_well,
-    wrong_commits_well,
+    selects_commit_well, settings_commit_well, sound_is_valid, stays_sound, unbuilt_commits_well,
+    writes_commit_well, wrong_commits_well,
 };
