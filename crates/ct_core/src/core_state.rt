@@ -80,11 +80,12 @@ fn has_room(entry: &Entry) -> bool
 }
 
 impl<D> Core<D> {
-    ghost use Rattle.std.specs.Prelude.{IfErr, IfOk, OnErr};
+    ghost use Rattle.std.specs.Prelude.{false, IfErr, IfOk, OnErr, OnOk};
     ghost use Rattle.ct_model.specs.Apply.{no_db};
     ghost use Rattle.ct_machine.specs.Machine.{opening};
-    ghost use Rattle.ct_machine.specs.Play.{Follows, after};
+    ghost use Rattle.ct_machine.specs.Play.{Follows, after, is_memory};
     ghost use Rattle.ct_machine.specs.Step.{step};
+    ghost use Rattle.ct_machine_laws.specs.Sound.{RowsFit};
     ghost use Rattle.ct_core.specs.Range.{ActIsNarrow};
     ghost use Rattle.ct_core.specs.Stands.{IsSettled, Stands};
 
@@ -133,6 +134,7 @@ impl<D> Core<D> {
 
     fn try_event(&mut self, alloc: Global, what: &Command) -> Result<Reply, Memory>
         ensures ok { IfOk result (λ reply. (m : Machine) → Stands self.old m → (reply ≡ (step m what.now).1) × Stands self.new (step m what.now).0) }
+        ensures fits { OnOk result (RowsFit self.old.db what.now) }
         ensures disk { self.new.disk ≡ self.old.disk }
         ensures err { OnErr result (self.new ≡ self.old) }
     {
@@ -153,9 +155,12 @@ impl<D> Core<D> {
     /// `TooLong` for a value that does not fit its column; `Duplicate` for an INSERT of a key that is there; `Exhausted`
     /// where no version or no transaction number is left, each at most 2^62. Want of memory is `Refused` with `Memory`; it
     /// may come at any event, and leaves the core as it was. The order of the refusals is this project's own.
+    ///
+    /// The rows that the statement writes fit their table (`fits`); want of memory writes none.
     pub fn event(&mut self, alloc: Global, _session: u8, what: &Command) -> Reply
         ensures follows { (m : Machine) → Stands self.old m → Follows m what.now result }
         ensures stands { (m : Machine) → Stands self.old m → Stands self.new (after m what.now result) }
+        ensures fits { (m : Machine) → Stands self.old m → is_memory result ≡ false → RowsFit (db_of m) what.now }
         ensures disk { self.new.disk ≡ self.old.disk }
     {
         match self.try_event(alloc, what) {

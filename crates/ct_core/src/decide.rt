@@ -1,11 +1,14 @@
-ghost use Rattle.std.specs.Prelude.{◌≡◌, [], Ok, IfOk, slice_get};
+ghost use Rattle.std.specs.Prelude.{◌≡◌, [], Ok, IfOk, OnOk, slice_get};
+ghost use Rattle.std.specs.List.{AllByRecursion};
 ghost use Rattle.ct_types.specs.Answers.{Gives};
 ghost use Rattle.ct_model.specs.Tables.{catalogued as catalogued_table, table_of};
+ghost use Rattle.ct_write.specs.Fitting.{IsFit};
 ghost use Rattle.ct_write.specs.Writes.{NamesIds, writes_of};
 ghost use Rattle.ct_bind.specs.Binding.{binding};
 ghost use Rattle.ct_bind.specs.Limits.{KeepsLimits};
 ghost use Rattle.ct_machine.specs.Decide as spec;
 ghost use Rattle.ct_machine.specs.Reads.{catalogue as catalogue_of, selected as selected_in, world_of};
+ghost use Rattle.ct_machine_laws.specs.Sound.{AnswerFits, FitsOn, RowsFit, WriteFits};
 ghost use Rattle.ct_core.specs.Range.{IsNarrow, DecisionIsNarrow};
 
 use crate::reads::{NoVersions, catalogue, catalogued, env, selected};
@@ -77,7 +80,8 @@ fn writes_on(
     table: &Table,
 ) -> Result<List<Write>, Refusal>
     requires { NamesIds write.now.change }
-    ensures { Gives (writes_of (world_of db.now) (catalogued_table table.now) write.now table.now.rows) result }
+    ensures gives { Gives (writes_of (world_of db.now) (catalogued_table table.now) write.now table.now.rows) result }
+    ensures fit { IfOk result (λ made. AllByRecursion (λ one. IsFit table.now.schema.columns one.row) made) }
 {
     let env = env(alloc, db)?;
     let catalogued = catalogued(alloc, table)?;
@@ -95,6 +99,7 @@ fn write_to(alloc: Global, db: &Db, write: &BoundWrite, table: &Table) -> Result
     requires { NamesIds write.now.change }
     ensures is { IfOk result (λ made. made ≡ spec.written db.now write.now (Some table.now)) }
     ensures narrow { IfOk result DecisionIsNarrow }
+    ensures fits { OnOk result (FitsOn db.now write.now table.now) }
 {
     match writes_on(alloc, db, write, table) {
         Ok(writes) => without_duplicates(alloc, table, writes),
@@ -107,6 +112,7 @@ fn decide_write(alloc: Global, db: &Db, write: &BoundWrite) -> Result<Decision, 
     requires { NamesIds write.now.change }
     ensures is { IfOk result (λ made. made ≡ spec.written db.now write.now (table_of db.now.tables write.now.table)) }
     ensures narrow { IfOk result DecisionIsNarrow }
+    ensures fits { OnOk result (WriteFits db.now write.now) }
 {
     match find_table(db.tables.as_slice(), write.table) {
         None => Ok(Decision::Answers(Reply::Count(0))),
@@ -127,6 +133,7 @@ fn write_once(alloc: Global, db: &Db, write: BoundWrite) -> Result<Decision, Mem
     requires { NamesIds write.change }
     ensures is { IfOk result (λ made. made ≡ spec.written db.now write (table_of db.now.tables write.table)) }
     ensures narrow { IfOk result DecisionIsNarrow }
+    ensures fits { OnOk result (WriteFits db.now write) }
 {
     decide_write(alloc, db, &write)
 }
@@ -145,6 +152,7 @@ fn decide_bound(alloc: Global, db: &Db, statement: Bound) -> Result<Decision, Me
     requires { KeepsLimits statement }
     ensures is { IfOk result (λ made. made ≡ spec.decide_bound db.now statement) }
     ensures narrow { IfOk result DecisionIsNarrow }
+    ensures fits { OnOk result (AnswerFits db.now (Ok statement)) }
 {
     match statement {
         Bound::AcceptOption => Ok(Decision::Answers(Reply::Done)),
@@ -186,6 +194,7 @@ fn decide_sentence(alloc: Global, db: &Db, statement: &Stmt) -> Result<Decision,
     requires { IsNarrow db.now }
     ensures is { IfOk result (λ made. made ≡ spec.once_bound db.now (binding (catalogue_of db.now) db.now.keep [] statement.now)) }
     ensures narrow { IfOk result DecisionIsNarrow }
+    ensures fits { OnOk result (AnswerFits db.now (binding (catalogue_of db.now) db.now.keep [] statement.now)) }
 {
     match bound(alloc, db, statement) {
         Ok(bound) => decide_bound(alloc, db, bound),
@@ -200,6 +209,7 @@ pub(crate) fn decide_command(alloc: Global, db: &Db, what: &Command) -> Result<D
     requires { IsNarrow db.now }
     ensures is { IfOk result (λ made. made ≡ spec.decide db.now what.now) }
     ensures narrow { IfOk result DecisionIsNarrow }
+    ensures fits { OnOk result (RowsFit db.now what.now) }
 {
     match what {
         Command::Wrong(refusal) => Ok(Decision::Refuses(refusal.copy(alloc)?)),
