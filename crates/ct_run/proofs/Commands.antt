@@ -9,6 +9,8 @@ use Rattle.ct_parser.specs.Exact.{Parsed}
 use Rattle.ct_parser.proofs.OneAnswer.{answers_once}
 use Rattle.ct_machine.specs.declared.command.Command.{Command}
 use Rattle.ct_machine.specs.declared.command.Command.TheVariants.{Sql, Wrong}
+use Rattle.ct_sound.specs.Laws.{IsSpelledCommand}
+use Rattle.ct_spelled.proofs.Statements.{parsed_are_spelled}
 use Rattle.ct_run.specs.Schedule.{IsAnswered, Means}
 
 -- the parser's refusal, where it is not want of memory
@@ -16,6 +18,11 @@ pub means_refused : (text : List ℕ) (refusal : Refusal) → refusal ≢ Memory
 means_refused text Memory other told = absurd (other refl)
 means_refused text (Syntax at) other told = inr told
 means_refused text refusal other told = told
+
+-- the command of a text is one that the grammar gives
+pub means_spelled : (text : List ℕ) (what : Command) → Means text what → IsSpelledCommand what
+means_spelled text (Sql tree) (tokens, cut, parsed) = parsed_are_spelled text tokens tree cut parsed
+means_spelled text (Wrong refusal) means = tt
 
 -- the parser's answer that a command stands for, and the command of an answer
 answer_of : Command → Result Stmt Refusal

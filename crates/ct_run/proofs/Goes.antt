@@ -1,22 +1,27 @@
 -- How a play goes on, from one statement and one phase to the next.
-use Rattle.std.proofs.Common.{◌≡◌, ℕ, ◌+◌, ◌<◌, List, [], ◌∷◌, ◌++◌, length, get_or, take, sum_by, refl, sym, ap, subst, ◌∙◌, append_assoc, append-nil, arith}
+use Rattle.std.proofs.Common.{◌≡◌, ℕ, ◌+◌, ◌<◌, false, List, [], ◌∷◌, ◌++◌, length, get_or, take, sum_by, refl, sym, ap, subst, ◌∙◌, append_assoc, append-nil, arith}
 use Rattle.std.specs.List.{flat_map}
 use Rattle.std.proofs.lemmas.Grind.{common_steps, flat_map-append}
 use Rattle.std.proofs.lemmas.List.{take_more}
 use Rattle.std.proofs.lemmas.List.Concat.{length-flat_map}
 use Rattle.std.proofs.lemmas.List.Sums.{sum_by_push}
 use Rattle.ct_model.specs.Apply.{no_db}
+use Rattle.ct_model.proofs.InTurn.{no_db_valid}
 use Rattle.ct_core.specs.Stands.{CoreState, Stands}
 use Rattle.ct_machine.specs.declared.command.Journaled.{Journaled}
-use Rattle.ct_machine.specs.Machine.{Machine, opening}
-use Rattle.ct_machine.specs.Play.{Follows, IsPlay, end_of}
+use Rattle.ct_machine.specs.Machine.{Machine, db_of, opening}
+use Rattle.ct_machine.specs.Play.{Follows, IsPlay, end_of, is_memory}
 use Rattle.ct_machine.specs.Play as play
+use Rattle.ct_machine_laws.specs.Sound.{IsSound, RowsFit, StaySound}
+use Rattle.ct_machine_laws.proofs.Soundness.{opens_sound}
 use Rattle.ct_script.specs.declared.script.Lane.{Lane}
 use Rattle.ct_script.specs.declared.script.Phase.{Phase}
 use Rattle.ct_script.specs.Size.{lane_size, phase_size}
+use Rattle.ct_sound.proofs.Keeping.{keeps_sound}
 use Rattle.ct_run.specs.Schedule.{Numbered, numbered_from, numbered_in_lane, numbered_in, IsOf, IsInOrder, AreInOrder}
 use Rattle.ct_run.specs.Steps.{Goes}
 use Rattle.ct_run.specs.Top.{all_of}
+use Rattle.ct_run.proofs.Commands.{means_spelled}
 
 -- ---- plays and journals, one behind the other
 
@@ -27,6 +32,15 @@ IsPlay-append m (one ∷ journal) more here there = (here.0, IsPlay-append (play
 end_of-append : (m : Machine) (journal more : List Journaled) → end_of m (journal ++ more) ≡ end_of (end_of m journal) more
 end_of-append m [] more = refl
 end_of-append m (one ∷ journal) more = end_of-append (play.after m one.what one.reply) journal more
+
+StaySound-append : (m : Machine) (journal more : List Journaled) → StaySound m journal → StaySound (end_of m journal) more → StaySound m (journal ++ more)
+StaySound-append m [] more here there = there
+StaySound-append m (one ∷ journal) more here there = (here.0, StaySound-append (play.after m one.what one.reply) journal more here.1 there)
+
+-- the machine at the end is one of them
+end_sound : (m : Machine) (journal : List Journaled) → StaySound m journal → IsSound (end_of m journal)
+end_sound m [] stay = stay
+end_sound m (one ∷ journal) stay = end_sound (play.after m one.what one.reply) journal stay.1
 
 IsInOrder-append : (statements others : List Numbered) (journal more : List Journaled) → IsInOrder statements journal → IsInOrder others more → IsInOrder (statements ++ others) (journal ++ more)
 IsInOrder-append [] others [] more here there = there
@@ -94,13 +108,19 @@ length-numbered_in phase = length-flat_map numbered_in_lane phase.sessions ∙ s
 
 module _ {D : Type 0} where
   pub goes_none : (journal : List Journaled) (core : CoreState D) → Goes [] journal journal core core
-  goes_none journal core = record { own = []; added = sym (append-nil journal); in_order = tt; plays = λ m stands. (tt, stands) }
+  goes_none journal core = record { own = []; added = sym (append-nil journal); in_order = tt; plays = λ m stands. (tt, stands); sound = λ m stands sound. sound }
 
   goes_one : (statement : Numbered) (old new : List Journaled) (one : Journaled) (before after : CoreState D) → new ≡ old ++ one ∷ [] → IsOf statement one
       → ((m : Machine) → Stands before m → Follows m one.what one.reply) → ((m : Machine) → Stands before m → Stands after (play.after m one.what one.reply))
+      → ((m : Machine) → Stands before m → is_memory one.reply ≡ false → RowsFit (db_of m) one.what)
       → Goes (statement ∷ []) old new before after
-  goes_one statement old new one before after added is follows stands =
-      record { own = one ∷ []; added = added; in_order = (is, tt); plays = λ m s. ((follows m s, tt), stands m s) }
+  goes_one statement old new one before after added is follows stands fits = record {
+    own = one ∷ [];
+    added = added;
+    in_order = (is, tt);
+    plays = λ m s. ((follows m s, tt), stands m s);
+    sound = λ m s sound. (sound, keeps_sound m one.what one.reply sound (means_spelled statement.text one.what is.means) (fits m s));
+  }
 
   pub goes_on : (statements others : List Numbered) (old mid new : List Journaled) (before between after : CoreState D)
       → Goes statements old mid before between → Goes others mid new between after → Goes (statements ++ others) old new before after
@@ -112,6 +132,10 @@ module _ {D : Type 0} where
         let first = here.plays m s in
         let second = there.plays (end_of m here.own) first.1 in
         (IsPlay-append m here.own there.own first.0 second.0, subst (Stands after) (sym (end_of-append m here.own there.own)) second.1);
+    sound = λ m s sound.
+        let first = here.plays m s in
+        let stay = here.sound m s sound in
+        StaySound-append m here.own there.own stay (there.sound (end_of m here.own) first.1 (end_sound m here.own stay));
   }
 
   -- a lane goes on by one statement
@@ -120,10 +144,11 @@ module _ {D : Type 0} where
       → Goes (numbered_from lane.session lane.first (take i lane.statements)) old mid before between
       → new ≡ mid ++ one ∷ [] → IsOf (record { session = lane.session; number = lane.first + i; text = text }) one
       → ((m : Machine) → Stands between m → Follows m one.what one.reply) → ((m : Machine) → Stands between m → Stands after (play.after m one.what one.reply))
+      → ((m : Machine) → Stands between m → is_memory one.reply ≡ false → RowsFit (db_of m) one.what)
       → Goes (numbered_from lane.session lane.first (take (i + 1) lane.statements)) old new before after
-  goes_statement lane i text old mid new one before between after inside is goes added of follows stands =
+  goes_statement lane i text old mid new one before between after inside is goes added of follows stands fits =
       subst (λ statements. Goes statements old new before after) (sym (numbered_more lane i text inside is))
-      (goes_on _ _ old mid new before between after goes (goes_one _ mid new one between after added of follows stands))
+      (goes_on _ _ old mid new before between after goes (goes_one _ mid new one between after added of follows stands fits))
 
   -- a phase goes on by one lane
   pub goes_lane : (lanes : List Lane) (i : ℕ) (lane : Lane) (old mid new : List Journaled) (before between after : CoreState D)
@@ -138,8 +163,12 @@ module _ {D : Type 0} where
   pub record HasPlayed (phases : List Phase) (journals : List (List Journaled)) (core : CoreState D) : Type 0 where
     pub in_order : AreInOrder phases journals
     pub is_play : IsPlay (opening no_db) (all_of journals)
+    pub sound : StaySound (opening no_db) (all_of journals)
     pub stands : Stands core (end_of (opening no_db) (all_of journals))
     pub count : sum_by length journals ≡ sum_by phase_size phases
+
+  pub played_none : (core : CoreState D) → Stands core (opening no_db) → HasPlayed [] [] core
+  played_none core stands = record { in_order = tt; is_play = tt; sound = opens_sound no_db no_db_valid; stands = stands; count = refl }
 
   played_push : (phases : List Phase) (phase : Phase) (journals : List (List Journaled)) (journal : List Journaled) (between after : CoreState D)
       → HasPlayed phases journals between → Goes (numbered_in phase) [] journal between after → HasPlayed (phases ++ phase ∷ []) (journals ++ journal ∷ []) after
@@ -148,11 +177,13 @@ module _ {D : Type 0} where
       let own : goes.own ≡ journal = sym goes.added in
       let in_order : IsInOrder (numbered_in phase) journal = subst (IsInOrder (numbered_in phase)) own goes.in_order in
       let plays = subst (λ j. IsPlay m j × Stands after (end_of m j)) own (goes.plays m played.stands) in
+      let stay = subst (StaySound m) own (goes.sound m played.stands (end_sound (opening no_db) (all_of journals) played.sound)) in
       let whole = all_of-push journals journal in
       let size : length journal ≡ phase_size phase = length-in_order (numbered_in phase) journal in_order ∙ length-numbered_in phase in
       record {
         in_order = AreInOrder-push phases phase journals journal played.in_order in_order;
         is_play = subst (IsPlay (opening no_db)) (sym whole) (IsPlay-append (opening no_db) (all_of journals) journal played.is_play plays.0);
+        sound = subst (StaySound (opening no_db)) (sym whole) (StaySound-append (opening no_db) (all_of journals) journal played.sound stay);
         stands = subst (λ j. Stands after (end_of (opening no_db) j)) (sym whole) (subst (Stands after) (sym (end_of-append (opening no_db) (all_of journals) journal)) plays.1);
         count = sum_by_push length journals journal ∙ ap (λ n. n + length journal) played.count ∙ ap (λ n. sum_by phase_size phases + n) size ∙ sym (sum_by_push phase_size phases phase);
       }

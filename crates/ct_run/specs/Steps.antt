@@ -4,6 +4,7 @@ use Rattle.std.specs.Io.KnownBytes.{Keeps}
 use Rattle.ct_machine.specs.declared.command.Journaled.{Journaled}
 use Rattle.ct_machine.specs.Machine.{Machine}
 use Rattle.ct_machine.specs.Play.{IsPlay, end_of}
+use Rattle.ct_machine_laws.specs.Sound.{IsSound, StaySound}
 use Rattle.ct_core.specs.Stands.{CoreState, Stands}
 use Rattle.ct_script.specs.declared.script.Script.{Script}
 use Rattle.ct_run.specs.Schedule.{Numbered, IsInOrder}
@@ -11,12 +12,14 @@ use Rattle.ct_run.specs.Top.{SinkChange, PlaysScript}
 use Rattle.ct_run.specs.declared.status.Status.{Status}
 use Rattle.ct_run.specs.declared.status.Status.TheVariants.{Memory}
 
--- the journal has these statements behind what it had, each reply follows, and the core stands for the machine after them
+-- the journal has these statements behind what it had, each reply follows, and the core stands for the machine after them; a
+-- machine that was sound stays so
 pub record Goes {D : Type 0} (statements : List Numbered) (old new : List Journaled) (before after : CoreState D) : Type 0 where
   pub own : List Journaled
   pub added : new ≡ old ++ own
   pub in_order : IsInOrder statements own
   pub plays : (m : Machine) → Stands before m → IsPlay m own × Stands after (end_of m own)
+  pub sound : (m : Machine) → Stands before m → IsSound m → StaySound m own
 
 -- what comes of a script: a run that was written, or, where memory was wanting, maybe nothing at all
 abbrev pub Performs : Status → SinkChange → Script → Type 0

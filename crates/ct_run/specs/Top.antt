@@ -10,6 +10,7 @@ use Rattle.ct_model.specs.Apply.{no_db}
 use Rattle.ct_machine.specs.Machine.{opening}
 use Rattle.ct_machine.specs.Play.{IsPlay, IsWhole}
 use Rattle.ct_machine.specs.Transcript.{run_text}
+use Rattle.ct_machine_laws.specs.Sound.{StaySound}
 use Rattle.ct_script.specs.Answer.{Reads}
 use Rattle.ct_script.specs.declared.error.ScriptError.TheVariants as script
 use Rattle.ct_script.specs.declared.script.Script.{Script}
@@ -78,6 +79,8 @@ all_of journals = flat_map (λ journal. journal) journals
 pub record IsRunOf (script : Script) (journals : List (List Journaled)) : Type 0 where
   pub in_order : AreInOrder script.phases journals
   pub is_play : IsPlay (opening no_db) (all_of journals)
+  -- each machine that the run passes is sound: its database is valid, and its entries apply in turn to the empty one
+  pub sound : StaySound (opening no_db) (all_of journals)
 
 -- what the sink got of the transcript, by the status: at status 0 all of it, and no reply says that memory was wanting; at
 -- 4 a front part, since a write failed, and no reply says so either; at 7 a front part, which may be none or all of it;
