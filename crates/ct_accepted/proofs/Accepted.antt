@@ -37,7 +37,7 @@ use Rattle.ct_bound_kinds.proofs.Sound.{valid_are_sound}
 use Rattle.ct_write.specs.Laws.{EachSuits, IsOfKinds, IsOfTable, SetsColumns, Suits}
 use Rattle.ct_write.specs.Rows.{no_row}
 use Rattle.ct_machine.specs.Reads.{world_of}
-use Rattle.ct_accepted.specs.Laws.{WritesAreAccepted}
+use Rattle.ct_accepted.specs.Laws.{WritesSuitTheirTable}
 
 -- ---- rows
 
@@ -150,8 +150,8 @@ module _ (db : Db) (table : Schema) (rows : List Row) (fit : AllByRecursion (Row
   )
   change_accepted (Delete filter) is = (tt, tt)
 
-pub writes_are_accepted : WritesAreAccepted
-writes_are_accepted db keep context write bound table valid some came is =
+pub writes_suit_their_table : WritesSuitTheirTable
+writes_suit_their_table db keep context write bound table valid some came is =
     let well : IsWrite (map catalogued db.tables) [] bound =
     bound_are_well_formed (map catalogued db.tables) keep [] (stmt.Write context write) (Write bound) (valid_are_sound db valid) some came in
     let same : well.table ≡ table.schema =

@@ -1,4 +1,5 @@
--- The law that what a write statement comes to is accepted by its table. This project's own.
+-- The law that what a write statement comes to suits its table: it sets columns of the table, and with values of their kinds. This
+-- project's own.
 use Rattle.std.specs.Prelude.{◌≡◌, [], map, Option, Some, Ok}
 use Rattle.ct_types.specs.declared.bound.Bound.TheVariants.{Write}
 use Rattle.ct_types.specs.declared.bound.BoundWrite.{BoundWrite}
@@ -15,10 +16,10 @@ use Rattle.ct_bound_kinds.specs.Laws.{SetsSome}
 use Rattle.ct_write.specs.Laws.{IsOfTable, IsOfKinds}
 use Rattle.ct_machine.specs.Reads.{world_of}
 
--- in the catalogue of a valid database, a write statement comes to one of its table, whose expressions give the columns
--- values of their kinds
-abbrev pub WritesAreAccepted : Type 0
-WritesAreAccepted =
+-- In the catalogue of a valid database, the SET list of a bound write names columns of its table, one at least and none of the key,
+-- and each value that is put into a column is of the column's kind.
+abbrev pub WritesSuitTheirTable : Type 0
+WritesSuitTheirTable =
     (db : Db) (keep : Option Keep) (context : Option Expr) (write : WriteStmt) (bound : BoundWrite) (table : Table)
     → IsValid db → SetsSome write → binding (map catalogued db.tables) keep [] (stmt.Write context write) ≡ Ok (Write bound)
     → table_of db.tables bound.table ≡ Some table

@@ -1,7 +1,7 @@
-ghost use Rattle.ct_accepted.specs.Laws.{WritesAreAccepted};
+ghost use Rattle.ct_accepted.specs.Laws.{WritesSuitTheirTable};
 
-/// In the catalogue of a valid database, what a write statement comes to is a statement of its table, and each of its
-/// expressions gives its column values of the column's kind.
-pub fn writes_are_accepted()
-    ensures { WritesAreAccepted }
+/// In the catalogue of a valid database, the SET list of a bound write names columns of its table, one at least and none of
+/// the key, and each value that is put into a column is of the column's kind.
+pub fn writes_suit_their_table()
+    ensures { WritesSuitTheirTable }
 {}

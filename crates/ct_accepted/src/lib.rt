@@ -1,6 +1,6 @@
-//! The law that what a write statement comes to is accepted by its table.
+//! The law that what a write statement comes to suits its table.
 #![tactic(auto)]
 
 mod laws;
 
-pub use laws::writes_are_accepted;
+pub use laws::writes_suit_their_table;

@@ -23,7 +23,7 @@ use Rattle.ct_machine_laws.specs.Sound.{AnswerFits, CommitsWell, IsSound, RowsFi
 use Rattle.ct_machine_laws.proofs.Committing.{creates_commit_well, enables_commit_well, selects_commit_well, settings_commit_well, unbuilt_commits_well, wrong_commits_well}
 use Rattle.ct_machine_laws.proofs.Soundness.{sound_is_valid, stays_sound}
 use Rattle.ct_machine_laws.proofs.Writing.{writes_commit_well}
-use Rattle.ct_accepted.proofs.Accepted.{writes_are_accepted}
+use Rattle.ct_accepted.proofs.Accepted.{writes_suit_their_table}
 use Rattle.ct_spelled.specs.Spelled.{IsSpelled}
 use Rattle.ct_sound.specs.Laws.{IsSpelledCommand, KeepsSound}
 
@@ -36,7 +36,7 @@ write_accepted : (m : Machine) (context : Option Expr) (write : WriteStmt) → I
     → (bound : BoundWrite) (table : Table) → binding (catalogue (db_of m)) (db_of m).keep [] (stmt.Write context write) ≡ Ok (Writes bound)
     → table_of (db_of m).tables bound.table ≡ Some table → IsAccepted (db_of m) bound table
 write_accepted m context write sound some fits bound table was is =
-    let promised = writes_are_accepted (db_of m) (db_of m).keep context write bound table (sound_is_valid m sound) some was is in
+    let promised = writes_suit_their_table (db_of m) (db_of m).keep context write bound table (sound_is_valid m sound) some was is in
     record { columns = promised.0; kinds = promised.1; fit = fits bound was table is }
 
 -- each form that is built commits acts that apply
