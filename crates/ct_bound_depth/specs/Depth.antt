@@ -1,6 +1,7 @@
 -- How deep an expression is: one without operands is 0 deep, and every other is one deeper than the deepest of its operands.
 -- A chain of one operator is one form, with all its operands. The operands of a scalar form are the values of its
--- CHANGETABLE(VERSION ..). This project's own.
+-- CHANGETABLE(VERSION ..). The levels of a text, of which there may be 64, are another thing: they count brackets, which leave
+-- no trace in a tree, NOT and minus signs. This project's own.
 --
 -- Each rule stands on one line: it tells the depth of a form by those of its parts, which stand in their places.
 use Rattle.std.specs.Prelude.{ℕ, ◌+◌, max, List, [], ◌∷◌}

@@ -77,6 +77,7 @@ abbrev pub SetsSome : WriteStmt → Type 0
 SetsSome (write.Update table sets from filter) = 0 < length sets
 SetsSome write = Unit {0}
 
+-- a statement as it can be written: its SET list, if it has one, is not empty
 abbrev pub IsWritten : Stmt → Type 0
 IsWritten (stmt.Write context write) = SetsSome write
 IsWritten stmt = Unit {0}

@@ -55,7 +55,7 @@ table_row table = map (λ column. kind_of_type column.kind) table.columns
 abbrev pub HasColumn : Schema → ℕ → Type 0
 HasColumn table id = IsSome (column_of table.columns id)
 
--- a list of columns of the table, each of which stands in it once
+-- columns of the table, none of which stands in the list twice
 pub record IsColumnList (table : Schema) (ids : List ℕ) : Type 0 where
   pub columns : AllByRecursion (HasColumn table) ids
   pub distinct : IsDistinct nat_eq ids

@@ -1,4 +1,4 @@
--- What the grammar promises of a tree that was read from a text.
+-- Two things that the grammar promises of a tree that was read from a text: what validity needs.
 use Rattle.ct_types.specs.declared.stmt.Stmt.{Stmt}
 use Rattle.ct_types.specs.declared.stmt.Stmt.TheVariants as stmt
 use Rattle.ct_schema_laws.specs.Laws.{AreNames}

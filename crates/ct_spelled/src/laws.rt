@@ -1,7 +1,7 @@
 ghost use Rattle.ct_spelled.specs.Laws.{ParsedAreSpelled};
 
-/// The tree of a text names a table that it creates, and its columns, by names that are names, and sets a column at least where it
-/// sets any.
+/// Of a tree that was read from a text, CREATE TABLE gives its table and its columns names of 1 to 128 characters from space to `~`
+/// without `]`, and UPDATE sets one column at least.
 pub fn parsed_are_spelled()
     ensures { ParsedAreSpelled }
 {}

@@ -1,4 +1,4 @@
-//! The law that what the grammar reads has names, and SET lists that are not empty.
+//! The law that a created table and its columns have names, and that a SET list is not empty, in what the grammar reads.
 #![tactic(auto)]
 
 mod laws;
