@@ -3,7 +3,6 @@ use Rattle.std.proofs.Common.{◌≡◌, Bool, true, false, [], Option, Some, Ok
 use Rattle.ct_types.specs.declared.bound.Bound.TheVariants.{Write as Writes}
 use Rattle.ct_types.specs.declared.bound.BoundWrite.{BoundWrite}
 use Rattle.ct_types.specs.declared.expr.Expr.{Expr}
-use Rattle.ct_types.specs.declared.reply.Reply.{Reply}
 use Rattle.ct_types.specs.declared.stmt.Stmt.{Stmt}
 use Rattle.ct_types.specs.declared.stmt.Stmt.TheVariants as stmt
 use Rattle.ct_types.specs.declared.stmt.WriteStmt.{WriteStmt}
