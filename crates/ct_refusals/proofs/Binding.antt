@@ -1,5 +1,5 @@
 -- Whatever binding refuses has its cause: the forms of statements, one by one.
-use Rattle.std.proofs.Common.{length, ◌≡◌, ℕ, not, List, [], ◌∷◌, ◌++◌, map, Option, is_some, inl, refl, sym, ap, subst}
+use Rattle.std.proofs.Common.{length, ◌≡◌, ℕ, not, List, [], ◌∷◌, ◌++◌, flat_map, Option, is_some, inl, refl, sym, ap, subst}
 use Rattle.std.specs.Option.{option_map, IsSomeAnd}
 use Rattle.std.proofs.lemmas.Bool.{not-false}
 use Rattle.ct_types.specs.declared.catalogue.Catalogued.{Catalogued}
@@ -25,8 +25,8 @@ use Rattle.ct_bind_expr.specs.Places.{row_of}
 use Rattle.ct_bind.specs.Writes as writes
 use Rattle.ct_bind.specs.Writes.{write_of}
 use Rattle.ct_bind.specs.Binding.{kind_of_name, truncate, value_of, set_variable, declare, binding, binding_by}
-use Rattle.ct_refusals.specs.Mentions.{Mention, OfVariable, of_table, of_each, mentions, of_tuple, of_optional, of_select, of_updated, of_statement}
-use Rattle.ct_refusals.specs.Causes.{has_length, IsKeyColumn, HasCause}
+use Rattle.ct_refusals.specs.Mentions.{Mention, OfVariable, of_table, mentions, of_tuple, of_optional, of_select, of_updated, of_statement}
+use Rattle.ct_refusals.specs.Causes.{has_length, HasKeyColumn, HasCause}
 use Rattle.ct_refusals.specs.Laws.{RefusalsHaveCauses}
 use Rattle.ct_refusals.proofs.Among.{Among, itself, left, right, first, rest}
 use Rattle.ct_refusals.proofs.Caused.{Caused, ok_caused, weaker, then_caused, met_caused, found_caused}
@@ -43,9 +43,9 @@ module _ (tables : List Catalogued) (keep : Option Keep) (variables : List Varia
   unfolding writes.insert existing_table
   insert_caused context table columns tuples =
       let it : Stmt = stmt.Write context (write.Insert table columns tuples) in
-      let values : List Mention = of_each (map (of_tuple (option_map length columns)) tuples) in
+      let values : List Mention = flat_map (of_tuple (option_map length columns)) tuples in
       let behind : Among (of_table table ∷ values) (of_statement it) = right (of_optional context) (of_table table ∷ values) (itself (of_statement it)) in
-      found_caused (table_named tables (table_name table)) (NoObject (table_name table)) _ (λ none. (first (of_table table) values behind, inl (ap (λ o. is_some o) none)))
+      found_caused (table_named tables (table_name table)) (NoObject (table_name table)) _ (λ none. inl (inl (first (of_table table) values behind), ap (λ o. is_some o) none))
       (λ found is. then_caused _ _ (context_fine tables keep variables it context (left (of_optional context) (of_table table ∷ values) (itself (of_statement it))))
       (λ _. then_caused _ _ (insert_change_fine tables keep variables it found.schema columns tuples (λ many. many)
       (subst (λ o. IsSomeAnd o (λ (it : Catalogued). length found.schema.columns ≡ length it.schema.columns)) (sym is) refl) (rest (of_table table) values behind)) (λ _. ok_caused _)))
@@ -55,14 +55,14 @@ module _ (tables : List Catalogued) (keep : Option Keep) (variables : List Varia
   unfolding writes.update existing_table
   update_caused context table sets from filter =
       let it : Stmt = stmt.Write context (write.Update table sets from filter) in
-      let values : List Mention = of_each (map (λ (set : SetColumn). mentions set.value) sets) ++ of_optional filter in
+      let values : List Mention = flat_map (λ (set : SetColumn). mentions set.value) sets ++ of_optional filter in
       let behind : Among (of_table table ∷ (of_updated from ++ values)) (of_statement it) = right (of_optional context) (of_table table ∷ (of_updated from ++ values)) (itself (of_statement it)) in
       let after : Among (of_updated from ++ values) (of_statement it) = rest (of_table table) (of_updated from ++ values) behind in
-      found_caused (table_named tables (table_name table)) (NoObject (table_name table)) _ (λ none. (first (of_table table) (of_updated from ++ values) behind, inl (ap (λ o. is_some o) none)))
-      (λ found is. then_caused _ _ (updated_fine tables keep variables it table from (λ name another. another) (left (of_updated from) values after))
+      found_caused (table_named tables (table_name table)) (NoObject (table_name table)) _ (λ none. inl (inl (first (of_table table) (of_updated from ++ values) behind), ap (λ o. is_some o) none))
+      (λ found is. then_caused _ _ (updated_fine tables keep variables it table from (λ name another. another))
       (λ row. then_caused _ _ (context_fine tables keep variables it context (left (of_optional context) (of_table table ∷ (of_updated from ++ values)) (itself (of_statement it))))
       (λ _. then_caused _ _ (update_change_fine tables keep variables it found.schema _ sets filter
-      (λ name set of_key. (set, subst (λ o. IsSomeAnd o (λ (it : Catalogued). IsKeyColumn it.schema name)) (sym is) of_key)) (right (of_updated from) values after))
+      (λ name set of_key. (set, subst (λ o. IsSomeAnd o (λ (it : Catalogued). HasKeyColumn it.schema name)) (sym is) of_key)) (right (of_updated from) values after))
       (λ _. ok_caused _))))
 
   delete_caused : (context : Option Expr) (table : ObjectName) (filter : Option Expr)

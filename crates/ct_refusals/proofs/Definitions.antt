@@ -20,7 +20,7 @@ use Rattle.ct_names.specs.Names.{table_name}
 use Rattle.ct_names.specs.Numbers.{within, retention_of}
 use Rattle.ct_names.specs.Catalogue.{table_named, existing_table}
 use Rattle.ct_define.specs.Definitions.{schema_of, create, enable, disable, retention_or, settings, switch_on, switch_off, change, tracked_count, alter_database}
-use Rattle.ct_refusals.specs.Mentions.{of_table}
+use Rattle.ct_refusals.specs.Mentions.{of_table, of_tracked}
 use Rattle.ct_refusals.specs.Causes.{rules, HasCause}
 use Rattle.ct_refusals.proofs.Among.{itself, first}
 use Rattle.ct_refusals.proofs.Caused.{Caused, ok_caused, err_caused, weaker, then_caused, met_caused, or_caused, found_caused}
@@ -64,7 +64,7 @@ module _ (tables : List Catalogued) (variables : List Variable) where
   pub enable_caused : (keep : Option Keep) (name : ObjectName) (masks : Bool) → Caused (HasCause tables keep variables (stmt.EnableTracking name masks)) (enable tables keep name masks)
   unfolding enable existing_table
   enable_caused keep name masks =
-      found_caused (table_named tables (table_name name)) (NoObject (table_name name)) _ (λ none. (first (of_table name) [] (itself (of_table name ∷ [])), inl (ap (λ o. is_some o) none)))
+      found_caused (table_named tables (table_name name)) (NoObject (table_name name)) _ (λ none. inl (inl (first (of_table name) [] (itself (of_table name ∷ []))), ap (λ o. is_some o) none))
       (λ table found. met_caused (not (is_some table.tracked)) (AlreadyTracked (table_name name)) _
       (λ tracked. inl (refl, subst (λ o. IsSomeAnd o (λ (it : Catalogued). IsSome it.tracked)) (sym found) (not-false _ tracked)))
       (λ _. met_caused (is_some keep) TrackingOff _ (λ off. (tt, off)) (λ _. ok_caused (EnableTracking table.schema.id masks))))
@@ -72,7 +72,7 @@ module _ (tables : List Catalogued) (variables : List Variable) where
   pub disable_caused : (keep : Option Keep) (name : ObjectName) → Caused (HasCause tables keep variables (stmt.DisableTracking name)) (disable tables name)
   unfolding disable
   disable_caused keep name =
-      then_caused _ _ (weaker _ (widened tables keep variables (stmt.DisableTracking name)) (tracked_explained tables variables (of_table name ∷ []) name (first (of_table name) [] (itself (of_table name ∷ []))))) (λ table. ok_caused _)
+      then_caused _ _ (weaker _ (widened tables keep variables (stmt.DisableTracking name)) (tracked_explained tables variables (of_tracked name ∷ []) name (first (of_tracked name) [] (itself (of_tracked name ∷ []))))) (λ table. ok_caused _)
 
   of_settings : (keep : Option Keep) (statement : Stmt) (written : Option Retention) (refusal : Refusal)
       → (IsSomeAnd written (λ retention. IsNone (within 1 2147483647 retention.amount)) → HasCause tables keep variables statement BadRetention)

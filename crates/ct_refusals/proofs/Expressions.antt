@@ -1,5 +1,5 @@
 -- What look-ups and expressions refuse: each refusal has its cause in the catalogue and among the variables.
-use Rattle.std.proofs.Common.{◌≡◌, ◌≢◌, ℕ, ◌+◌, Bool, true, false, not, ◌||◌, ◌==◌, codes, List, [], ◌∷◌, length, Option, Some, None, IsNone, is_some, Ok, cond, inl, refl, sym, ap, ◌∙◌, subst, eq-eqb}
+use Rattle.std.proofs.Common.{◌≡◌, ◌≢◌, ℕ, ◌+◌, Bool, true, false, not, ◌||◌, ◌==◌, ◌⊎◌, codes, List, [], ◌∷◌, length, Option, Some, None, IsNone, is_some, Ok, cond, inl, inr, refl, sym, ap, ◌∙◌, subst, eq-eqb}
 use Rattle.std.specs.List.{Contains, AllByRecursion}
 use Rattle.std.specs.Option.{IsSomeAnd}
 use Rattle.ct_types.specs.declared.bound.BoundRowVersion.{BoundRowVersion}
@@ -18,7 +18,7 @@ use Rattle.ct_types.specs.declared.stmt.Stmt.{Stmt}
 use Rattle.ct_kinds.specs.declared.kind.Kind.{Kind}
 use Rattle.ct_kinds.specs.declared.kind.Kind.TheVariants.{Number, Text, Bytes, Condition}
 use Rattle.ct_types.specs.Answers.{Answer, each, each_after}
-use Rattle.ct_names.specs.Numbers.{literal}
+use Rattle.ct_names.specs.Numbers.{within, literal}
 use Rattle.ct_names.specs.Names.{same, is_among, table_name}
 use Rattle.ct_names.specs.Catalogue.{table_named, existing_table, tracked_table, variable_from, declared_variable, is_declared}
 use Rattle.ct_bind_expr.specs.declared.place.Typed.{Typed}
@@ -31,8 +31,8 @@ use Rattle.ct_bind_expr.specs.Versions as versions
 use Rattle.ct_bind_expr.specs.Versions.{Walk, operand, values, tuple, listed_kind, listed_kinds, kind_of_column, missing, none_missing, version_of, key_column_from, version_column}
 use Rattle.ct_bind_expr.specs.Walk as expr
 use Rattle.ct_bind_expr.specs.Walk.{TermWalk, two, both_of_kind, chain, further_term, sum}
-use Rattle.ct_refusals.specs.Mentions.{Mention, OfTable, OfVariable, OfNumber, OfTuple, of_table, of_statement}
-use Rattle.ct_refusals.specs.Causes.{HaveTooLarge, IsNoTable, IsUntracked, IsNoVariable, HasCause}
+use Rattle.ct_refusals.specs.Mentions.{Mention, OfTable, OfTracked, OfVariable, OfNumber, OfTuple, of_table, of_tracked, of_statement}
+use Rattle.ct_refusals.specs.Causes.{HasNoTable, HasUntracked, HasNoVariable, HasCause}
 use Rattle.ct_refusals.proofs.Caused.{Caused, ok_caused, err_caused, then_caused, after_caused, came_from, each_after_length, demand_caused, met_caused, cond_caused, or_caused, found_caused, each_after_caused, of_all}
 
 -- no variable of the name was found, so none is declared
@@ -60,10 +60,10 @@ kinds_length key names kinds e =
 module _ (tables : List Catalogued) (variables : List Variable) (mentioned : List Mention) where
   -- the causes that need no more than the catalogue, the variables and what is mentioned
   abbrev pub OfNames : Refusal → Type 0
-  OfNames (NoObject name) = Contains mentioned (OfTable name) × IsNoTable tables name
-  OfNames Overflow = HaveTooLarge mentioned
-  OfNames (NotTracked name) = Contains mentioned (OfTable name) × IsUntracked tables name
-  OfNames (NoVariable name) = Contains mentioned (OfVariable name) × IsNoVariable variables name
+  OfNames (NoObject name) = (Contains mentioned (OfTable name) ⊎ Contains mentioned (OfTracked name)) × HasNoTable tables name
+  OfNames Overflow = (digits : List ℕ) × Contains mentioned (OfNumber digits) × IsNone (within 0 9223372036854775807 digits)
+  OfNames (NotTracked name) = Contains mentioned (OfTracked name) × HasUntracked tables name
+  OfNames (NoVariable name) = Contains mentioned (OfVariable name) × HasNoVariable variables name
   OfNames (CountClash wanted got) = (wanted ≢ got) × Contains mentioned (OfTuple (Some wanted) got)
   OfNames (NoColumn name) = Unit {0}
   OfNames (Ambiguous name) = Unit {0}
@@ -81,16 +81,16 @@ module _ (tables : List Catalogued) (variables : List Variable) (mentioned : Lis
 
   pub existing_explained : (name : ObjectName) → Contains mentioned (of_table name) → IsExplained (existing_table tables name)
   unfolding existing_table
-  existing_explained name is = or_caused _ (NoObject (table_name name)) (λ none. (is, ap (λ o. is_some o) none))
+  existing_explained name is = or_caused _ (NoObject (table_name name)) (λ none. (inl is, ap (λ o. is_some o) none))
 
   -- a table that is not tracked is there, where it was looked up
-  untracked : (name : ObjectName) (table : Catalogued) → table_named tables (table_name name) ≡ Some table → IsNone table.tracked → IsUntracked tables (table_name name)
+  untracked : (name : ObjectName) (table : Catalogued) → table_named tables (table_name name) ≡ Some table → IsNone table.tracked → HasUntracked tables (table_name name)
   untracked name table found none = subst (λ o. IsSomeAnd o (λ (it : Catalogued). IsNone it.tracked)) (sym found) none
 
-  pub tracked_explained : (name : ObjectName) → Contains mentioned (of_table name) → IsExplained (tracked_table tables name)
+  pub tracked_explained : (name : ObjectName) → Contains mentioned (of_tracked name) → IsExplained (tracked_table tables name)
   unfolding tracked_table existing_table
   tracked_explained name is =
-      found_caused (table_named tables (table_name name)) (NoObject (table_name name)) _ (λ none. (is, ap (λ o. is_some o) none))
+      found_caused (table_named tables (table_name name)) (NoObject (table_name name)) _ (λ none. (inr is, ap (λ o. is_some o) none))
       (λ table found. met_caused _ (NotTracked (table_name name)) _ (λ none. (is, untracked name table found none)) (λ _. ok_caused _))
 
   pub variable_explained : (name : List ℕ) → Contains mentioned (OfVariable name) → IsExplained (declared_variable variables name)
@@ -292,7 +292,7 @@ module _ (tables : List Catalogued) (variables : List Variable) (mentioned : Lis
 -- what needs no more is a cause, whatever the settings are
 pub widened : (tables : List Catalogued) (keep : Option Keep) (variables : List Variable) (statement : Stmt) (refusal : Refusal)
     → OfNames tables variables (of_statement statement) refusal → HasCause tables keep variables statement refusal
-widened tables keep variables statement (NoObject name) cause = (cause.0, inl cause.1)
+widened tables keep variables statement (NoObject name) cause = inl cause
 widened tables keep variables statement Overflow cause = cause
 widened tables keep variables statement (NotTracked name) cause = cause
 widened tables keep variables statement (NoVariable name) cause = cause

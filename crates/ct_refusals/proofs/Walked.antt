@@ -1,5 +1,5 @@
 -- Each refusal of a walk over an expression has its cause: by induction over the expression, one case for each form.
-use Rattle.std.proofs.Common.{◌≡◌, List, [], ◌∷◌, ◌++◌, length, map, Some, ◌∙◌, subst, sym}
+use Rattle.std.proofs.Common.{◌≡◌, List, [], ◌∷◌, ◌++◌, length, map, Some, ◌∙◌, refl, ap, ap₂, subst, sym}
 use Rattle.std.specs.List.{AllByRecursion}
 use Rattle.std.proofs.lemmas.List.{length-map}
 use Rattle.ct_types.specs.declared.catalogue.Catalogued.{Catalogued}
@@ -7,7 +7,7 @@ use Rattle.ct_types.specs.declared.catalogue.Variable.{Variable}
 use Rattle.ct_types.specs.declared.expr.Expr.{Expr, roll-Expr, map-Expr}
 use Rattle.ct_types.specs.declared.expr.Expr.TheOpen as e
 use Rattle.ct_types.specs.declared.expr.Expr.TheOpen.{Expr-F, RowVersion-F, Scalar-F, Term-F}
-use Rattle.ct_types.specs.declared.expr.Expr.TheFolds.{fold-roll-Expr, fold-roll-RowVersion, fold-roll-Scalar, fold-roll-Term, ind-Expr}
+use Rattle.ct_types.specs.declared.expr.Expr.TheFolds.{fold-roll-Expr, fold-roll-RowVersion, fold-roll-Scalar, fold-roll-Term, fold_out-RowVersion, ind-Expr}
 use Rattle.ct_types.specs.declared.expr.RowVersion.{RowVersion, roll-RowVersion, map-RowVersion}
 use Rattle.ct_types.specs.declared.expr.Scalar.{Scalar, roll-Scalar, map-Scalar}
 use Rattle.ct_types.specs.declared.expr.Term.{Term, roll-Term, map-Term}
@@ -15,10 +15,23 @@ use Rattle.ct_kinds.specs.declared.kind.Kind.TheVariants.{Number, Condition}
 use Rattle.ct_bind_expr.specs.declared.place.Place.{Place}
 use Rattle.ct_bind_expr.specs.Versions.{Walk}
 use Rattle.ct_bind_expr.specs.Walk.{VersionWalk, TermWalk, two, property, sum, expr_rule, version_rule, scalar_rule, term_rule, walk, version_walk, scalar_walk, term_walk}
-use Rattle.ct_refusals.specs.Mentions.{Mention, OfVariable, OfNumber, OfTuple, of_table, of_each, of_expr, of_version, of_scalar, of_term, mentions, version_mentions, scalar_mentions, term_mentions, of_values}
+use Rattle.ct_refusals.specs.Mentions.{Mention, OfVariable, OfNumber, OfTuple, of_tracked, of_each, of_expr, of_version, of_scalar, of_term, mentions, version_mentions, scalar_mentions, term_mentions, of_values, of_tuple}
 use Rattle.ct_refusals.proofs.Among.{Among, left, right, first, rest}
 use Rattle.ct_refusals.proofs.Caused.{ok_caused, then_caused}
 use Rattle.ct_refusals.proofs.Expressions.{IsExplained, ExplainedAt, TermExplained, number_explained, variable_typed_explained, column_explained, min_valid_version_explained, column_in_mask_explained, object_id_explained, property_explained, if_null_explained, negative_explained, compare_explained, is_null_explained, is_not_null_explained, negated_explained, two_explained, chain_explained, sum_explained, version_of_explained, scalar_column_explained, tracked_explained}
+
+-- those of all parts, where each stands in its place
+each_is : (values : List Expr) → of_each (map mentions values) ≡ of_values values
+each_is [] = refl
+each_is (value ∷ more) = ap (λ others. mentions value ++ others) (each_is more)
+
+-- what CHANGETABLE(VERSION ..) mentions
+pub opened_version : (v : RowVersion) → version_mentions v ≡ of_tracked v.table ∷ of_tuple (Some (length v.columns)) v.values
+unfolding mentions version_mentions scalar_mentions term_mentions
+opened_version v =
+    let opened : version_mentions v ≡ of_tracked v.table ∷ OfTuple (Some (length v.columns)) (length (map mentions v.values)) ∷ of_each (map mentions v.values) =
+    fold_out-RowVersion (List Mention) (List Mention) (List Mention) (List Mention) of_expr of_version of_scalar of_term v in
+    opened ∙ ap₂ (λ count values. of_tracked v.table ∷ OfTuple (Some (length v.columns)) count ∷ values) (length-map v.values mentions) (each_is v.values)
 
 module _ (tables : List Catalogued) (variables : List Variable) where
   abbrev OfExpr : Expr → Type 0
@@ -132,9 +145,9 @@ module _ (tables : List Catalogued) (variables : List Variable) where
   version_form_explained y mentioned among place =
       let values : List (List Mention) = map mentions (map (λ p. p.0) y.values) in
       let own : Mention = OfTuple (Some (length y.columns)) (length values) in
-      let behind : Among (own ∷ of_each values) mentioned = rest (of_table y.table) (own ∷ of_each values) among in
+      let behind : Among (own ∷ of_each values) mentioned = rest (of_tracked y.table) (own ∷ of_each values) among in
       let long : length (map (walk tables variables) (map (λ p. p.0) y.values)) ≡ length values = length-map (map (λ p. p.0) y.values) (walk tables variables) ∙ sym (length-map (map (λ p. p.0) y.values) mentions) in
-      then_caused _ _ (tracked_explained tables variables mentioned y.table (first (of_table y.table) (own ∷ of_each values) among))
+      then_caused _ _ (tracked_explained tables variables mentioned y.table (first (of_tracked y.table) (own ∷ of_each values) among))
       (λ table. then_caused _ _ (version_of_explained tables variables mentioned table.schema y.columns _ place (length values) long (first own (of_each values) behind)
       (all_at y.values mentioned (rest own (of_each values) behind))) (λ _. ok_caused _))
 

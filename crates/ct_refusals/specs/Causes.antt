@@ -1,6 +1,7 @@
--- The cause of each refusal of binding, told of the catalogue, the settings, the variables and the statement: nothing here says how binding
--- goes through a statement. The forms are T-SQL's; the limits, the rules of a table and the refusals without a number are this project's own.
-use Rattle.std.specs.Prelude.{◌≡◌, ◌≢◌, ℕ, ◌<◌, ◌≤◌, ◌⊎◌, Bool, true, false, not, ◌&&◌, codes, List, [], ◌∷◌, length, Option, Some, None, is_some, IsSome, IsNone, IsTrue, IsFalse}
+-- The cause of each refusal of binding but three, told of the catalogue, the settings, the variables and the statement: nothing here says how
+-- binding goes through a statement. The forms are T-SQL's; the limits, the rules of a table and the refusals without a number are this
+-- project's own.
+use Rattle.std.specs.Prelude.{◌≡◌, ◌≢◌, ℕ, ◌<◌, ◌≤◌, ◌⊎◌, Bool, true, false, not, ◌&&◌, codes, List, [], ◌∷◌, length, map, Option, Some, None, is_some, IsSome, IsNone, IsTrue, IsFalse}
 use Rattle.std.specs.List.{Contains, list_all, position_from}
 use Rattle.std.specs.Option.{IsSomeAnd}
 use Rattle.ct_types.specs.declared.catalogue.Catalogued.{Catalogued}
@@ -21,8 +22,8 @@ use Rattle.ct_names.specs.Catalogue.{table_named, system_table, is_declared}
 use Rattle.ct_names.specs.Names.{same, table_name}
 use Rattle.ct_names.specs.Numbers.{within}
 use Rattle.ct_define.specs.Definitions.{keys_written, is_there, is_repeated, has_clear_nulls, key_names, are_different, is_free_name, id_from, is_in_sys, tracked_count}
-use Rattle.ct_bind.specs.Writes.{target_from, is_key, is_set}
-use Rattle.ct_refusals.specs.Mentions.{Mention, OfTable, OfVariable, OfNumber, OfTuple, of_statement}
+use Rattle.ct_bind.specs.Writes.{target_from, is_key}
+use Rattle.ct_refusals.specs.Mentions.{Mention, OfTable, OfTracked, OfSource, OfVariable, OfNumber, OfTuple, of_statement}
 
 -- ---- what a statement mentions
 
@@ -30,35 +31,35 @@ use Rattle.ct_refusals.specs.Mentions.{Mention, OfTable, OfVariable, OfNumber, O
 abbrev pub Mentions : Stmt → Mention → Type 0
 Mentions statement mention = Contains (of_statement statement) mention
 
--- Overflow: a number that is mentioned is above 9,223,372,036,854,775,807
-abbrev pub HaveTooLarge : List Mention → Type 0
-HaveTooLarge mentioned = (digits : List ℕ) × Contains mentioned (OfNumber digits) × IsNone (within 0 9223372036854775807 digits)
+-- Overflow: the statement mentions a number above 9,223,372,036,854,775,807
+abbrev pub MentionsTooLarge : Stmt → Type 0
+MentionsTooLarge statement = (digits : List ℕ) × Mentions statement (OfNumber digits) × IsNone (within 0 9223372036854775807 digits)
 
 -- ---- tables and variables of a name
 
 -- no table of the catalogue has the name
-abbrev pub IsNoTable : List Catalogued → List ℕ → Type 0
-IsNoTable tables name = IsNone (table_named tables name)
+abbrev pub HasNoTable : List Catalogued → List ℕ → Type 0
+HasNoTable tables name = IsNone (table_named tables name)
 
--- a table of the catalogue has it
-abbrev pub IsTable : List Catalogued → List ℕ → Type 0
-IsTable tables name = IsSome (table_named tables name)
+-- a table of the catalogue has the name
+abbrev pub HasTable : List Catalogued → List ℕ → Type 0
+HasTable tables name = IsSome (table_named tables name)
 
--- and that table is tracked
-abbrev pub IsTracked : List Catalogued → List ℕ → Type 0
-IsTracked tables name = IsSomeAnd (table_named tables name) (λ table. IsSome table.tracked)
+-- a table of the catalogue has the name, and is tracked
+abbrev pub HasTracked : List Catalogued → List ℕ → Type 0
+HasTracked tables name = IsSomeAnd (table_named tables name) (λ table. IsSome table.tracked)
 
--- or it is not
-abbrev pub IsUntracked : List Catalogued → List ℕ → Type 0
-IsUntracked tables name = IsSomeAnd (table_named tables name) (λ table. IsNone table.tracked)
+-- a table of the catalogue has the name, and is not tracked
+abbrev pub HasUntracked : List Catalogued → List ℕ → Type 0
+HasUntracked tables name = IsSomeAnd (table_named tables name) (λ table. IsNone table.tracked)
 
 -- a variable of the name is declared
-abbrev pub IsVariable : List Variable → List ℕ → Type 0
-IsVariable variables name = IsTrue (is_declared variables name)
+abbrev pub HasVariable : List Variable → List ℕ → Type 0
+HasVariable variables name = IsTrue (is_declared variables name)
 
--- or none is
-abbrev pub IsNoVariable : List Variable → List ℕ → Type 0
-IsNoVariable variables name = IsFalse (is_declared variables name)
+-- no variable of the name is declared
+abbrev pub HasNoVariable : List Variable → List ℕ → Type 0
+HasNoVariable variables name = IsFalse (is_declared variables name)
 
 -- ---- NoObject: a table that is not there, or not where it may stand
 
@@ -67,7 +68,7 @@ abbrev pub Joins : Stmt → Type 0
 Joins (stmt.Select query) = IsSomeAnd query.from (λ from. IsSome from.join)
 Joins _ = ⊥
 
--- a system table stands alone in FROM
+-- a SELECT of two sources, and the name of a system table
 abbrev pub JoinsSystemTable : Stmt → List ℕ → Type 0
 JoinsSystemTable statement name = Joins statement × IsSome (system_table name)
 
@@ -77,8 +78,15 @@ UpdatesFromAnother (stmt.Write context (write.Update table sets from filter)) na
     IsSomeAnd from (λ source. (name ≡ table_name source.table) × IsFalse (same name (table_name table)))
 UpdatesFromAnother _ name = ⊥
 
+-- neither a system table nor a table of the catalogue has the name; or a system table has it, and another source stands beside it
+abbrev pub IsNoSource : List Catalogued → Stmt → List ℕ → Type 0
+IsNoSource tables statement name = (IsNone (system_table name) × HasNoTable tables name) ⊎ JoinsSystemTable statement name
+
+-- NoObject: a name in FROM that is no source; a name elsewhere that no table of the catalogue has; the name of such an UPDATE
 abbrev pub IsNoObject : List Catalogued → Stmt → List ℕ → Type 0
-IsNoObject tables statement name = IsNoTable tables name ⊎ (JoinsSystemTable statement name ⊎ UpdatesFromAnother statement name)
+IsNoObject tables statement name =
+    ((Mentions statement (OfTable name) ⊎ Mentions statement (OfTracked name)) × HasNoTable tables name)
+    ⊎ ((Mentions statement (OfSource name) × IsNoSource tables statement name) ⊎ UpdatesFromAnother statement name)
 
 -- ---- what the settings of the database refuse
 
@@ -107,11 +115,11 @@ NeedsTracking _ = ⊥
 -- AlreadyTracked: the table is tracked; of the database, by that name, tracking is on
 abbrev pub IsAlreadyTracked : List Catalogued → Option Keep → Stmt → List ℕ → Type 0
 IsAlreadyTracked tables keep statement name =
-    (Enables statement name × IsTracked tables name) ⊎ ((name ≡ codes "database") × SwitchesOn statement × IsSome keep)
+    (Enables statement name × HasTracked tables name) ⊎ ((name ≡ codes "database") × SwitchesOn statement × IsSome keep)
 
--- TablesTracked: tracking is on, so many tables are tracked, and that is one at least
-abbrev pub KeepsTablesTracked : List Catalogued → Option Keep → Stmt → ℕ → Type 0
-KeepsTablesTracked tables keep statement count = SwitchesOff statement × IsSome keep × (count ≡ tracked_count tables) × (0 < count)
+-- TablesTracked: `= OFF` while tracking is on and so many tables, one at least, are tracked
+abbrev pub LeavesTablesTracked : List Catalogued → Option Keep → Stmt → ℕ → Type 0
+LeavesTablesTracked tables keep statement count = SwitchesOff statement × IsSome keep × (count ≡ tracked_count tables) × (0 < count)
 
 -- the retention that ALTER DATABASE writes
 abbrev pub written_retention : Stmt → Option Retention
@@ -119,7 +127,7 @@ written_retention (stmt.AlterDatabase database (option.TrackingOn options)) = op
 written_retention (stmt.AlterDatabase database (option.Tracking options)) = options.retention
 written_retention _ = None
 
--- BadRetention: its number is not from 1 to 2,147,483,647
+-- BadRetention: ALTER DATABASE writes a retention whose number is not from 1 to 2,147,483,647
 abbrev pub WritesBadRetention : Stmt → Type 0
 WritesBadRetention statement = IsSomeAnd (written_retention statement) (λ retention. IsNone (within 1 2147483647 retention.amount))
 
@@ -208,34 +216,33 @@ IsCountClash tables statement wanted got = (wanted ≢ got) × ((columns : Optio
 
 -- ---- KeyUpdate
 
--- the name is that of a column of the key
-abbrev pub IsKeyColumn : Schema → List ℕ → Type 0
-IsKeyColumn table name = IsSomeAnd (target_from name 1 table.columns) (λ column. IsTrue (is_key table column.column))
+-- a column of the key has the name
+abbrev pub HasKeyColumn : Schema → List ℕ → Type 0
+HasKeyColumn table name = IsSomeAnd (target_from name 1 table.columns) (λ column. IsTrue (is_key table column.column))
 
--- the SET list of an UPDATE sets a column of that name, which is one of the key of its table
+-- the SET list of an UPDATE has the name as it is written, and a column of the key of its table has it too
 abbrev pub SetsKey : List Catalogued → Stmt → List ℕ → Type 0
 SetsKey tables (stmt.Write context (write.Update table sets from filter)) name =
-    IsTrue (is_set name sets) × IsSomeAnd (table_named tables (table_name table)) (λ found. IsKeyColumn found.schema name)
+    Contains (map (λ set. set.column) sets) name × IsSomeAnd (table_named tables (table_name table)) (λ found. HasKeyColumn found.schema name)
 SetsKey tables _ name = ⊥
 
 -- ---- the causes
 
--- The cause of each refusal. Of a column that no source has, of one that several have and of kinds that do not go together nothing is said
--- here: these hang on the place of an expression in its statement, and their causes are those of the rules for expressions. Any other
--- refusal is none of binding's, and has no cause.
+-- The cause of each refusal. Of a column that is not there, of one that is ambiguous and of kinds that clash nothing is said here: their
+-- causes hang on a place in the statement and stand in the rules of the walk. Any other refusal is none of binding's, and has no cause.
 module _ (tables : List Catalogued) (keep : Option Keep) (variables : List Variable) (statement : Stmt) where
   abbrev pub HasCause : Refusal → Type 0
-  HasCause (NoObject name) = Mentions statement (OfTable name) × IsNoObject tables statement name
-  HasCause (Exists name) = Creates statement name × IsTable tables name
-  HasCause Overflow = HaveTooLarge (of_statement statement)
-  HasCause (NotTracked name) = Mentions statement (OfTable name) × IsUntracked tables name
+  HasCause (NoObject name) = IsNoObject tables statement name
+  HasCause (Exists name) = Creates statement name × HasTable tables name
+  HasCause Overflow = MentionsTooLarge statement
+  HasCause (NotTracked name) = Mentions statement (OfTracked name) × HasUntracked tables name
   HasCause (AlreadyTracked name) = IsAlreadyTracked tables keep statement name
   HasCause TrackingOff = NeedsTracking statement × IsNone keep
-  HasCause (TablesTracked count) = KeepsTablesTracked tables keep statement count
+  HasCause (TablesTracked count) = LeavesTablesTracked tables keep statement count
   HasCause BadRetention = WritesBadRetention statement
   HasCause (BadTable rule) = BreaksRule statement rule
-  HasCause (NoVariable name) = Mentions statement (OfVariable name) × IsNoVariable variables name
-  HasCause (VariableExists name) = Declares statement name × IsVariable variables name
+  HasCause (NoVariable name) = Mentions statement (OfVariable name) × HasNoVariable variables name
+  HasCause (VariableExists name) = Declares statement name × HasVariable variables name
   HasCause (KeyUpdate name) = SetsKey tables statement name
   HasCause (CountClash wanted got) = IsCountClash tables statement wanted got
   HasCause (TooMany limit) = IsTooMany tables statement limit

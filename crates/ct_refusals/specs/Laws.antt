@@ -8,7 +8,7 @@ use Rattle.ct_types.specs.declared.stmt.Stmt.{Stmt}
 use Rattle.ct_bind.specs.Binding.{binding}
 use Rattle.ct_refusals.specs.Causes.{HasCause}
 
--- whatever binding refuses has its cause
+-- whatever binding refuses has the cause that is stated of its refusal
 abbrev pub RefusalsHaveCauses : Type 0
 RefusalsHaveCauses =
     (tables : List Catalogued) (keep : Option Keep) (variables : List Variable) (statement : Stmt) (refusal : Refusal)

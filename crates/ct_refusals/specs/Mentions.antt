@@ -1,5 +1,6 @@
--- What a statement mentions: the tables and the variables that it names, its numbers, and how long its tuples of values are.
-use Rattle.std.specs.Prelude.{ℕ, List, [], ◌∷◌, ◌++◌, length, map, Option, Some, None}
+-- What a statement mentions: the tables and the variables that are to be there for it, the numbers of its expressions, and how long its
+-- tuples of values are. The name that CREATE TABLE or DECLARE gives is new, and no mention.
+use Rattle.std.specs.Prelude.{ℕ, List, [], ◌∷◌, ◌++◌, length, flat_map, Option, Some, None}
 use Rattle.std.specs.Option.{option_map}
 use Rattle.ct_types.specs.declared.expr.Expr.{Expr}
 use Rattle.ct_types.specs.declared.expr.Expr.TheOpen as e
@@ -24,19 +25,24 @@ use Rattle.ct_types.specs.declared.stmt.WriteStmt.{WriteStmt}
 use Rattle.ct_types.specs.declared.stmt.WriteStmt.TheVariants as write
 use Rattle.ct_names.specs.Names.{table_name}
 
--- a table or a variable of a name; a number of these digits; a tuple of so many values, for a list of so many columns where one is written
+-- A table that is written to, truncated, enabled or named in the FROM of an UPDATE; one that CHANGETABLE or DISABLE names; one that stands by
+-- its name in the FROM of a SELECT; a variable; a number of these digits; a tuple of so many values, for a list of so many columns where one
+-- is written.
 pub data Mention : Type 0 where
-  OfTable OfVariable OfNumber : List ℕ → Mention
+  OfTable OfTracked OfSource OfVariable OfNumber : List ℕ → Mention
   OfTuple : Option ℕ → ℕ → Mention
 
 -- a table by its name as it is written
 abbrev pub of_table : ObjectName → Mention
 of_table name = OfTable (table_name name)
 
--- those of each
+-- a table that is to be tracked
+abbrev pub of_tracked : ObjectName → Mention
+of_tracked name = OfTracked (table_name name)
+
+-- those of all parts
 abbrev pub of_each : List (List Mention) → List Mention
-of_each [] = []
-of_each (first ∷ more) = first ++ of_each more
+of_each parts = flat_map (λ part. part) parts
 
 -- ---- expressions, by what their parts mention
 
@@ -60,8 +66,9 @@ of_expr (e.And operands) = of_each operands
 of_expr (e.Or operands) = of_each operands
 of_expr _ = []
 
+-- the table, the tuple and the values of CHANGETABLE(VERSION ..)
 abbrev pub of_version : {B C D : Type 0} → RowVersion-F (List Mention) B C D → List Mention
-of_version version = of_table version.table ∷ OfTuple (Some (length version.columns)) (length version.values) ∷ of_each version.values
+of_version version = of_tracked version.table ∷ OfTuple (Some (length version.columns)) (length version.values) ∷ of_each version.values
 
 abbrev pub of_scalar : {A C D : Type 0} → Scalar-F A (List Mention) C D → List Mention
 of_scalar scalar = scalar.version
@@ -84,7 +91,7 @@ unfoldable pub term_mentions : Term → List Mention
 term_mentions = fold-Term (List Mention) (List Mention) (List Mention) (List Mention) of_expr of_version of_scalar of_term
 
 abbrev pub of_values : List Expr → List Mention
-of_values values = of_each (map mentions values)
+of_values values = flat_map mentions values
 
 abbrev pub of_optional : Option Expr → List Mention
 of_optional None = []
@@ -96,19 +103,15 @@ of_optional (Some value) = mentions value
 abbrev pub of_tuple : Option ℕ → List Expr → List Mention
 of_tuple columns values = OfTuple columns (length values) ∷ of_values values
 
--- the table and the values of CHANGETABLE(VERSION ..)
-abbrev pub of_row : RowVersion → List Mention
-of_row version = of_table version.table ∷ of_tuple (Some (length version.columns)) version.values
-
 abbrev pub of_source : Source → List Mention
-of_source (source.Table from) = of_table from.table ∷ []
-of_source (source.Changes name since alias) = of_table name ∷ mentions since
-of_source (source.Version from) = of_row from.version
+of_source (source.Table from) = OfSource (table_name from.table) ∷ []
+of_source (source.Changes name since alias) = of_tracked name ∷ mentions since
+of_source (source.Version from) = version_mentions from.version
 
 abbrev pub of_join : Option JoinClause → List Mention
 of_join None = []
 of_join (Some (clause.On kind other on)) = of_source other ++ mentions on
-of_join (Some (clause.Apply other)) = of_row other.version
+of_join (Some (clause.Apply other)) = version_mentions other.version
 
 abbrev pub of_from : Option FromClause → List Mention
 of_from None = []
@@ -119,7 +122,7 @@ of_item (wanted.One value alias) = mentions value
 of_item _ = []
 
 abbrev pub of_select : Select → List Mention
-of_select query = of_from query.from ++ (of_each (map of_item query.items) ++ (of_optional query.condition ++ of_each (map (λ it. mentions it.value) query.order)))
+of_select query = of_from query.from ++ (flat_map of_item query.items ++ (of_optional query.condition ++ flat_map (λ it. mentions it.value) query.order))
 
 -- the FROM of an UPDATE
 abbrev pub of_updated : Option TableSource → List Mention
@@ -127,14 +130,14 @@ of_updated None = []
 of_updated (Some from) = of_table from.table ∷ []
 
 abbrev pub of_write : WriteStmt → List Mention
-of_write (write.Insert name columns tuples) = of_table name ∷ of_each (map (of_tuple (option_map length columns)) tuples)
-of_write (write.Update name sets from filter) = of_table name ∷ (of_updated from ++ (of_each (map (λ set. mentions set.value) sets) ++ of_optional filter))
+of_write (write.Insert name columns tuples) = of_table name ∷ flat_map (of_tuple (option_map length columns)) tuples
+of_write (write.Update name sets from filter) = of_table name ∷ (of_updated from ++ (flat_map (λ set. mentions set.value) sets ++ of_optional filter))
 of_write (write.Delete name filter) = of_table name ∷ of_optional filter
 
 -- what a statement mentions
 abbrev pub of_statement : Stmt → List Mention
 of_statement (stmt.EnableTracking name masks) = of_table name ∷ []
-of_statement (stmt.DisableTracking name) = of_table name ∷ []
+of_statement (stmt.DisableTracking name) = of_tracked name ∷ []
 of_statement (stmt.TruncateTable name) = of_table name ∷ []
 of_statement (stmt.Write context write) = of_optional context ++ of_write write
 of_statement (stmt.Select query) = of_select query
