@@ -1,5 +1,5 @@
 -- What the definitions of tables, and what switches tracking, refuse: each refusal has its cause.
-use Rattle.std.proofs.Common.{◌≡◌, ◌<◌, ℕ, ◌+◌, zero, suc, nat_le, nat_lt, Bool, false, not, ◌==◌, length, codes, List, [], ◌∷◌, Option, Some, None, IsSome, IsNone, is_some, inl, inr, refl, sym, ap, subst, leb-false, ltb-false, arith}
+use Rattle.std.proofs.Common.{◌≡◌, ◌<◌, ℕ, ◌+◌, zero, suc, nat_le, nat_lt, Bool, false, not, ◌==◌, length, codes, List, [], ◌∷◌, Option, Some, None, IsSome, is_some, inl, inr, refl, sym, ap, subst, leb-false, ltb-false, arith}
 use Rattle.std.specs.Option.{IsSomeAnd}
 use Rattle.std.proofs.lemmas.Bool.{not-false}
 use Rattle.ct_types.specs.declared.bound.Bound.TheVariants.{CreateTable, EnableTracking}
@@ -17,11 +17,11 @@ use Rattle.ct_types.specs.declared.stmt.Stmt.{Stmt}
 use Rattle.ct_types.specs.declared.stmt.Stmt.TheVariants as stmt
 use Rattle.ct_types.specs.declared.stmt.TrackingOptions.{TrackingOptions}
 use Rattle.ct_names.specs.Names.{table_name}
-use Rattle.ct_names.specs.Numbers.{within, retention_of}
+use Rattle.ct_names.specs.Numbers.{retention_of}
 use Rattle.ct_names.specs.Catalogue.{table_named, existing_table}
 use Rattle.ct_define.specs.Definitions.{schema_of, create, enable, disable, retention_or, settings, switch_on, switch_off, change, tracked_count, alter_database}
 use Rattle.ct_refusals.specs.Mentions.{of_table, of_tracked}
-use Rattle.ct_refusals.specs.Causes.{rules, HasCause}
+use Rattle.ct_refusals.specs.Causes.{IsBadRetention, rules, HasCause}
 use Rattle.ct_refusals.proofs.Among.{itself, first}
 use Rattle.ct_refusals.proofs.Caused.{Caused, ok_caused, err_caused, weaker, then_caused, met_caused, or_caused, found_caused}
 use Rattle.ct_refusals.proofs.Expressions.{tracked_explained, widened}
@@ -29,7 +29,7 @@ use Rattle.ct_refusals.proofs.Rules.{BreaksFirst, schema_caused}
 
 -- the number of a retention that is written is out of its range
 abbrev IsBad : Option Retention → Refusal → Type 0
-IsBad written refusal = (refusal ≡ BadRetention) × IsSomeAnd written (λ retention. IsNone (within 1 2147483647 retention.amount))
+IsBad written refusal = (refusal ≡ BadRetention) × IsBadRetention written
 
 retention_caused : (old : ℕ) (written : Option Retention) → Caused (IsBad written) (retention_or old written)
 unfolding retention_of
@@ -75,7 +75,7 @@ module _ (tables : List Catalogued) (variables : List Variable) where
       then_caused _ _ (weaker _ (widened tables keep variables (stmt.DisableTracking name)) (tracked_explained tables variables (of_tracked name ∷ []) name (first (of_tracked name) [] (itself (of_tracked name ∷ []))))) (λ table. ok_caused _)
 
   of_settings : (keep : Option Keep) (statement : Stmt) (written : Option Retention) (refusal : Refusal)
-      → (IsSomeAnd written (λ retention. IsNone (within 1 2147483647 retention.amount)) → HasCause tables keep variables statement BadRetention)
+      → (IsBadRetention written → HasCause tables keep variables statement BadRetention)
       → IsBad written refusal → HasCause tables keep variables statement refusal
   of_settings keep statement written refusal cause bad = subst (λ it. HasCause tables keep variables statement it) (sym bad.0) (cause bad.1)
 

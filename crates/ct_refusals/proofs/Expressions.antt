@@ -49,7 +49,7 @@ pub differ : (got wanted : ℕ) → (got == wanted) ≡ false → wanted ≢ got
 differ got wanted e same = let t : (got == wanted) ≡ true = eq-eqb got wanted (sym same) in cc
 
 -- a list of columns has one kind for each
-kinds_length : (key : List Column) (names : List (List ℕ)) (kinds : List Kind) → listed_kinds key names ≡ Ok kinds → length kinds ≡ length names
+pub kinds_length : (key : List Column) (names : List (List ℕ)) (kinds : List Kind) → listed_kinds key names ≡ Ok kinds → length kinds ≡ length names
 unfolding listed_kinds
 kinds_length key names kinds e =
     let made = came_from (each_after (listed_kind key) [] names) _ kinds e in

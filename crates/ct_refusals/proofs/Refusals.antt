@@ -44,18 +44,19 @@ use Rattle.ct_bind_expr.specs.Walk.{walk}
 use Rattle.ct_bind.specs.Sources.{source_name, unique, sourced, system_sourced, plain_sourced, table_by, table_source, condition, changes_source, version_source, one_source, joined_on, applied, joined_with, joined_by, joined}
 use Rattle.ct_bind.specs.Queries.{is_empty, columns_of, one_item, bound_item, items_of, order_by, order_place, parts_of, from_of, select}
 use Rattle.ct_bind.specs.Writes.{targets_from, target_from, is_set, is_key, table_target, listed_target, insert_targets, set_target, updated_name, context_of, tuple_of, insert_change, set_of, update_change, delete_change}
-use Rattle.ct_refusals.specs.Mentions.{Mention, OfSource, OfTuple, of_tracked, mentions, version_mentions, of_values, of_tuple, of_optional, of_source, of_join, of_from, of_item, of_select, of_statement}
+use Rattle.ct_refusals.specs.Mentions.{Mention, OfSource, OfTuple, of_tracked, of_each, mentions, version_mentions, of_values, of_tuple, of_optional, of_source, of_join, of_from, of_item, of_select, of_statement}
 use Rattle.ct_refusals.specs.Causes.{Joins, UpdatesFromAnother, InsertsMoreThan, InsertsInto, IsWanted, HasKeyColumn, SetsKey, HasCause}
 use Rattle.ct_refusals.proofs.Among.{Among, left, right, first, rest}
 use Rattle.ct_refusals.proofs.Caused.{Caused, ok_caused, err_caused, weaker, then_caused, after_caused, each_after_length, demand_caused, met_caused, cond_caused, or_caused, found_caused, each_caused, each_after_caused, of_all}
 use Rattle.ct_refusals.proofs.Expressions.{IsExplained, widened, tracked_explained, of_kind_explained, any_value_explained, differ, values_explained, version_of_explained}
-use Rattle.ct_refusals.proofs.Walked.{opened_version, walk_explained, walks_explained}
+use Rattle.ct_refusals.proofs.Layers.{each_is, opened_version}
+use Rattle.ct_refusals.proofs.Walked.{walk_explained, walks_explained}
 
 -- the columns of a table have one kind each
-kinds_length : (id : ℕ) (columns : List Column) → length (map (λ column. column.kind) (targets_from id columns)) ≡ length columns
+pub targets_length : (id : ℕ) (columns : List Column) → length (map (λ column. column.kind) (targets_from id columns)) ≡ length columns
 unfolding targets_from
-kinds_length id [] = refl
-kinds_length id (column ∷ more) = ap suc (kinds_length (id + 1) more)
+targets_length id [] = refl
+targets_length id (column ∷ more) = ap suc (targets_length (id + 1) more)
 
 module _ (tables : List Catalogued) (keep : Option Keep) (variables : List Variable) (statement : Stmt) where
   -- whatever is refused is refused for a cause of this statement
@@ -127,15 +128,15 @@ module _ (tables : List Catalogued) (keep : Option Keep) (variables : List Varia
   version_fine : (before : List Shape) (place : Place) (from : VersionSource) → Says (version_mentions from.version) → Fine (version_source tables variables before place from)
   unfolding version_source
   version_fine before place from mentioned =
-      let says : Says (of_tracked from.version.table ∷ of_tuple (Some (length from.version.columns)) from.version.values) = subst (λ it. Says it) (opened_version from.version) mentioned in
-      let values : List Mention = of_values from.version.values in
-      let own : Mention = OfTuple (Some (length from.version.columns)) (length from.version.values) in
+      let values : List Mention = of_each (map mentions from.version.values) in
+      let own : Mention = OfTuple (Some (length from.version.columns)) (length (map mentions from.version.values)) in
+      let long : length (map (walk tables variables) from.version.values) ≡ length (map mentions from.version.values) = length-map from.version.values (walk tables variables) ∙ sym (length-map from.version.values mentions) in
+      let says : Says (of_tracked from.version.table ∷ own ∷ values) = subst (λ it. Says it) (opened_version from.version) mentioned in
       let behind : Says (own ∷ values) = rest (of_tracked from.version.table) (own ∷ values) says in
       then_caused _ _ (explained _ (tracked_explained tables variables (of_statement statement) from.version.table (first (of_tracked from.version.table) (own ∷ values) says)))
       (λ table. then_caused _ _ (unique_fine before from.alias)
-      (λ _. then_caused _ _ (explained _ (version_of_explained tables variables (of_statement statement) table.schema from.version.columns _ place (length from.version.values)
-      (length-map from.version.values (walk tables variables)) (first own values behind)
-      (walks_explained tables variables from.version.values (of_statement statement) (rest own values behind)))) (λ _. ok_caused _)))
+      (λ _. then_caused _ _ (explained _ (version_of_explained tables variables (of_statement statement) table.schema from.version.columns _ place (length (map mentions from.version.values)) long (first own values behind)
+      (walks_explained tables variables from.version.values (of_statement statement) (subst (λ all. Says all) (each_is from.version.values) (rest own values behind))))) (λ _. ok_caused _)))
 
   source_fine : (is_alone : Bool) (before : List Shape) (from : Source) → (is_alone ≡ false → Joins statement) → Says (of_source from) → Fine (one_source tables variables is_alone before from)
   unfolding one_source
@@ -266,7 +267,7 @@ module _ (tables : List Catalogued) (keep : Option Keep) (variables : List Varia
       → InsertsInto tables statement (length table.columns) → Says (flat_map (of_tuple (option_map length columns)) tuples) → Fine (insert_change tables variables table columns tuples)
   unfolding insert_change insert_targets tuple_of
   insert_change_fine table None tuples many into says =
-      tuples_fine _ (map (λ column. column.kind) (targets_from 1 table.columns)) None tuples many (subst (λ n. InsertsInto tables statement n) (sym (kinds_length 1 table.columns)) into) says
+      tuples_fine _ (map (λ column. column.kind) (targets_from 1 table.columns)) None tuples many (subst (λ n. InsertsInto tables statement n) (sym (targets_length 1 table.columns)) into) says
   insert_change_fine table (Some names) tuples many into says =
       after_caused (each_after (listed_target table) [] names) _
       (each_after_caused (listed_target table) [] names (of_all (λ name. (before : List (List ℕ)) → Fine (listed_target table before name)) names (λ name before. listed_fine table before name)))

@@ -13,6 +13,7 @@ use Rattle.ct_types.specs.Answers.{Answer, ◌>>=◌, ◌>>◌, demand, or_refus
 use Rattle.ct_names.specs.Numbers.{within, column_type}
 use Rattle.ct_define.specs.Definitions.{keys_written, is_there, is_repeated, has_clear_nulls, key_names, are_different, is_free_name, id_from, is_in_sys, first_rules, defined_column, key_id, schema_of}
 use Rattle.ct_refusals.specs.Causes.{has_length, is_one_column, rules}
+use Rattle.ct_refusals.proofs.Passed.{Passed, anyway, next_passed, met_passed}
 use Rattle.ct_refusals.proofs.Caused.{Caused, ok_caused, err_caused, weaker, then_caused, after_caused, demand_caused, met_caused, or_caused, came_from}
 
 -- ---- one rule
@@ -40,6 +41,10 @@ broken_5 a b c d e f one two three four five = rw (one, two, three, four, five)
 broken_6 : (a b c d e f : Bool) → a ≡ true → b ≡ true → c ≡ true → d ≡ true → e ≡ true → f ≡ false → position_from not 1 (a ∷ b ∷ c ∷ d ∷ e ∷ f ∷ []) ≡ Some 6
 broken_6 a b c d e f one two three four five six = rw (one, two, three, four, five, six)
 
+-- none is broken where all are kept
+kept_all : (a b c d e f : Bool) → a ≡ true → b ≡ true → c ≡ true → d ≡ true → e ≡ true → f ≡ true → position_from not 1 (a ∷ b ∷ c ∷ d ∷ e ∷ f ∷ []) ≡ None
+kept_all a b c d e f one two three four five six = rw (one, two, three, four, five, six)
+
 -- ---- the types
 
 pub type_caused : (type : TypeName) → Caused (Breaks 4 (has_length type)) (column_type type)
@@ -53,7 +58,7 @@ some_length : {A : Type 0} (o : Option ℕ) (refusal : Refusal) (next : ℕ → 
 some_length (Some n) refusal next a e = refl
 some_length None refusal next a e = absurd cc
 
-length_kept : (type : TypeName) (made : ColType) → column_type type ≡ Ok made → has_length type ≡ true
+pub length_kept : (type : TypeName) (made : ColType) → column_type type ≡ Ok made → has_length type ≡ true
 unfolding column_type
 length_kept type.Int made e = refl
 length_kept type.BigInt made e = refl
@@ -169,3 +174,14 @@ module _ (name : List ℕ) (columns : List ColumnDef) (key : Option (List (List 
       after_caused (key_id columns (key_names columns key)) _ (key_told kept four)
       (λ own is. let five : has_one ≡ true = key_kept columns (key_names columns key) own is in
       met_caused has_schema (BadTable 6) _ (broken_6 has_key has_nulls has_names has_types has_one has_schema kept.0 kept.1 kept.2 four five) (λ _. ok_caused _))))
+
+  -- where the table is made, no rule is broken
+  pub schema_kept : (id : ℕ) → Passed (position_from not 1 tests ≡ None) (schema_of id name columns key)
+  unfolding schema_of
+  schema_kept id =
+      next_passed (first_rules columns key (key_names columns key)) _
+      (λ _ first. let kept : AreKept = first_kept first in
+      next_passed (each (defined_column key) columns) _
+      (λ made typed. next_passed (key_id columns (key_names columns key)) _
+      (λ own is. met_passed has_schema (BadTable 6) _
+      (λ six. anyway _ (kept_all has_key has_nulls has_names has_types has_one has_schema kept.0 kept.1 kept.2 (lengths_kept key columns made typed) (key_kept columns (key_names columns key) own is) six)))))

@@ -1,5 +1,5 @@
 -- Each refusal of a walk over an expression has its cause: by induction over the expression, one case for each form.
-use Rattle.std.proofs.Common.{◌≡◌, List, [], ◌∷◌, ◌++◌, length, map, Some, ◌∙◌, refl, ap, ap₂, subst, sym}
+use Rattle.std.proofs.Common.{◌≡◌, List, [], ◌∷◌, ◌++◌, length, map, Some, ◌∙◌, subst, sym}
 use Rattle.std.specs.List.{AllByRecursion}
 use Rattle.std.proofs.lemmas.List.{length-map}
 use Rattle.ct_types.specs.declared.catalogue.Catalogued.{Catalogued}
@@ -7,31 +7,18 @@ use Rattle.ct_types.specs.declared.catalogue.Variable.{Variable}
 use Rattle.ct_types.specs.declared.expr.Expr.{Expr, roll-Expr, map-Expr}
 use Rattle.ct_types.specs.declared.expr.Expr.TheOpen as e
 use Rattle.ct_types.specs.declared.expr.Expr.TheOpen.{Expr-F, RowVersion-F, Scalar-F, Term-F}
-use Rattle.ct_types.specs.declared.expr.Expr.TheFolds.{fold-roll-Expr, fold-roll-RowVersion, fold-roll-Scalar, fold-roll-Term, fold_out-RowVersion, ind-Expr}
+use Rattle.ct_types.specs.declared.expr.Expr.TheFolds.{ind-Expr}
 use Rattle.ct_types.specs.declared.expr.RowVersion.{RowVersion, roll-RowVersion, map-RowVersion}
 use Rattle.ct_types.specs.declared.expr.Scalar.{Scalar, roll-Scalar, map-Scalar}
 use Rattle.ct_types.specs.declared.expr.Term.{Term, roll-Term, map-Term}
 use Rattle.ct_kinds.specs.declared.kind.Kind.TheVariants.{Number, Condition}
 use Rattle.ct_bind_expr.specs.declared.place.Place.{Place}
-use Rattle.ct_bind_expr.specs.Versions.{Walk}
-use Rattle.ct_bind_expr.specs.Walk.{VersionWalk, TermWalk, two, property, sum, expr_rule, version_rule, scalar_rule, term_rule, walk, version_walk, scalar_walk, term_walk}
-use Rattle.ct_refusals.specs.Mentions.{Mention, OfVariable, OfNumber, OfTuple, of_tracked, of_each, of_expr, of_version, of_scalar, of_term, mentions, version_mentions, scalar_mentions, term_mentions, of_values, of_tuple}
+use Rattle.ct_bind_expr.specs.Walk.{VersionWalk, two, property, sum, walk, version_walk, scalar_walk, term_walk}
+use Rattle.ct_refusals.specs.Mentions.{Mention, OfVariable, OfNumber, OfTuple, of_tracked, of_each, mentions, version_mentions, scalar_mentions, term_mentions, of_values}
 use Rattle.ct_refusals.proofs.Among.{Among, left, right, first, rest}
 use Rattle.ct_refusals.proofs.Caused.{ok_caused, then_caused}
 use Rattle.ct_refusals.proofs.Expressions.{IsExplained, ExplainedAt, TermExplained, number_explained, variable_typed_explained, column_explained, min_valid_version_explained, column_in_mask_explained, object_id_explained, property_explained, if_null_explained, negative_explained, compare_explained, is_null_explained, is_not_null_explained, negated_explained, two_explained, chain_explained, sum_explained, version_of_explained, scalar_column_explained, tracked_explained}
-
--- those of all parts, where each stands in its place
-each_is : (values : List Expr) → of_each (map mentions values) ≡ of_values values
-each_is [] = refl
-each_is (value ∷ more) = ap (λ others. mentions value ++ others) (each_is more)
-
--- what CHANGETABLE(VERSION ..) mentions
-pub opened_version : (v : RowVersion) → version_mentions v ≡ of_tracked v.table ∷ of_tuple (Some (length v.columns)) v.values
-unfolding mentions version_mentions scalar_mentions term_mentions
-opened_version v =
-    let opened : version_mentions v ≡ of_tracked v.table ∷ OfTuple (Some (length v.columns)) (length (map mentions v.values)) ∷ of_each (map mentions v.values) =
-    fold_out-RowVersion (List Mention) (List Mention) (List Mention) (List Mention) of_expr of_version of_scalar of_term v in
-    opened ∙ ap₂ (λ count values. of_tracked v.table ∷ OfTuple (Some (length v.columns)) count ∷ values) (length-map v.values mentions) (each_is v.values)
+use Rattle.ct_refusals.proofs.Layers.{form_mentions, version_form_mentions, scalar_form_mentions, term_form_mentions, said, version_said, scalar_said, term_said, form_walk, version_form_walk, scalar_form_walk, term_form_walk, walked, version_walked, scalar_walked, term_walked}
 
 module _ (tables : List Catalogued) (variables : List Variable) where
   abbrev OfExpr : Expr → Type 0
@@ -73,17 +60,9 @@ module _ (tables : List Catalogued) (variables : List Variable) where
     all_terms more mentioned (right (term_mentions part.0) (of_each (map term_mentions (map (λ p. p.0) more))) among),
   )
 
-  -- a form whose parts stand in their places
-  abbrev of_parts : Expr-F Expr RowVersion Scalar Term → Walk
-  of_parts x = expr_rule tables variables (map-Expr Expr RowVersion Scalar Term Walk VersionWalk Walk TermWalk (walk tables variables) (version_walk tables variables) (scalar_walk tables variables) (term_walk tables variables) x)
-
+  -- the forms, whose parts stand in their places
   abbrev parts_of : Expr-F E V S T → Expr-F Expr RowVersion Scalar Term
   parts_of y = map-Expr E V S T Expr RowVersion Scalar Term (λ p. p.0) (λ p. p.0) (λ p. p.0) (λ p. p.0) y
-
-  -- and what it mentions
-  abbrev form_mentions : Expr-F Expr RowVersion Scalar Term → List Mention
-  form_mentions x =
-      of_expr (map-Expr Expr RowVersion Scalar Term (List Mention) (List Mention) (List Mention) (List Mention) mentions version_mentions scalar_mentions term_mentions x)
 
   two_at : (one other : E) (mentioned : List Mention) → Among (mentions one.0 ++ mentions other.0) mentioned → (place : Place)
       → IsExplained tables variables mentioned (two place (walk tables variables one.0) (walk tables variables other.0))
@@ -103,7 +82,7 @@ module _ (tables : List Catalogued) (variables : List Variable) where
       sum_explained tables variables mentioned place _ _ (one.1 mentioned (left (mentions one.0) (of_each (map term_mentions (map (λ p. p.0) more))) among))
       (all_terms more mentioned (right (mentions one.0) (of_each (map term_mentions (map (λ p. p.0) more))) among))
 
-  form_explained : (y : Expr-F E V S T) (mentioned : List Mention) → Among (form_mentions (parts_of y)) mentioned → ExplainedAt tables variables mentioned (of_parts (parts_of y))
+  form_explained : (y : Expr-F E V S T) (mentioned : List Mention) → Among (form_mentions (parts_of y)) mentioned → ExplainedAt tables variables mentioned (form_walk tables variables (parts_of y))
   form_explained e.Null mentioned among place = ok_caused _
   form_explained (e.Number digits) mentioned among place = number_explained tables variables mentioned digits (first (OfNumber digits) [] among)
   form_explained (e.Text text) mentioned among place = ok_caused _
@@ -130,18 +109,11 @@ module _ (tables : List Catalogued) (variables : List Variable) where
   form_explained (e.Or operands) mentioned among place = then_caused _ _ (chain_explained tables variables mentioned Condition place _ (all_at operands mentioned among)) (λ _. ok_caused _)
 
   -- the forms of a version, a scalar form and a term, whose parts stand in their places
-  abbrev version_of_parts : RowVersion-F Expr RowVersion Scalar Term → VersionWalk
-  version_of_parts x = version_rule tables variables (map-RowVersion Expr RowVersion Scalar Term Walk VersionWalk Walk TermWalk (walk tables variables) (version_walk tables variables) (scalar_walk tables variables) (term_walk tables variables) x)
-
   abbrev version_parts : RowVersion-F E V S T → RowVersion-F Expr RowVersion Scalar Term
   version_parts y = map-RowVersion E V S T Expr RowVersion Scalar Term (λ p. p.0) (λ p. p.0) (λ p. p.0) (λ p. p.0) y
 
-  abbrev version_form_mentions : RowVersion-F Expr RowVersion Scalar Term → List Mention
-  version_form_mentions x =
-      of_version (map-RowVersion Expr RowVersion Scalar Term (List Mention) (List Mention) (List Mention) (List Mention) mentions version_mentions scalar_mentions term_mentions x)
-
   version_form_explained : (y : RowVersion-F E V S T) (mentioned : List Mention) → Among (version_form_mentions (version_parts y)) mentioned
-      → (place : Place) → IsExplained tables variables mentioned (version_of_parts (version_parts y) place)
+      → (place : Place) → IsExplained tables variables mentioned (version_form_walk tables variables (version_parts y) place)
   version_form_explained y mentioned among place =
       let values : List (List Mention) = map mentions (map (λ p. p.0) y.values) in
       let own : Mention = OfTuple (Some (length y.columns)) (length values) in
@@ -151,65 +123,39 @@ module _ (tables : List Catalogued) (variables : List Variable) where
       (λ table. then_caused _ _ (version_of_explained tables variables mentioned table.schema y.columns _ place (length values) long (first own (of_each values) behind)
       (all_at y.values mentioned (rest own (of_each values) behind))) (λ _. ok_caused _))
 
-  abbrev scalar_of_parts : Scalar-F Expr RowVersion Scalar Term → Walk
-  scalar_of_parts x = scalar_rule tables variables (map-Scalar Expr RowVersion Scalar Term Walk VersionWalk Walk TermWalk (walk tables variables) (version_walk tables variables) (scalar_walk tables variables) (term_walk tables variables) x)
-
   abbrev scalar_parts : Scalar-F E V S T → Scalar-F Expr RowVersion Scalar Term
   scalar_parts y = map-Scalar E V S T Expr RowVersion Scalar Term (λ p. p.0) (λ p. p.0) (λ p. p.0) (λ p. p.0) y
 
-  abbrev scalar_form_mentions : Scalar-F Expr RowVersion Scalar Term → List Mention
-  scalar_form_mentions x =
-      of_scalar (map-Scalar Expr RowVersion Scalar Term (List Mention) (List Mention) (List Mention) (List Mention) mentions version_mentions scalar_mentions term_mentions x)
-
   scalar_form_explained : (y : Scalar-F E V S T) (mentioned : List Mention) → Among (scalar_form_mentions (scalar_parts y)) mentioned
-      → ExplainedAt tables variables mentioned (scalar_of_parts (scalar_parts y))
+      → ExplainedAt tables variables mentioned (scalar_form_walk tables variables (scalar_parts y))
   scalar_form_explained y mentioned among place =
       then_caused _ _ (y.version.1 mentioned among place) (λ version. scalar_column_explained tables variables mentioned version.0 y.source y.alias y.column version.1)
-
-  abbrev term_of_parts : Term-F Expr RowVersion Scalar Term → TermWalk
-  term_of_parts x = term_rule tables variables (map-Term Expr RowVersion Scalar Term Walk VersionWalk Walk TermWalk (walk tables variables) (version_walk tables variables) (scalar_walk tables variables) (term_walk tables variables) x)
 
   abbrev term_parts : Term-F E V S T → Term-F Expr RowVersion Scalar Term
   term_parts y = map-Term E V S T Expr RowVersion Scalar Term (λ p. p.0) (λ p. p.0) (λ p. p.0) (λ p. p.0) y
 
-  abbrev term_form_mentions : Term-F Expr RowVersion Scalar Term → List Mention
-  term_form_mentions x =
-      of_term (map-Term Expr RowVersion Scalar Term (List Mention) (List Mention) (List Mention) (List Mention) mentions version_mentions scalar_mentions term_mentions x)
-
   -- ---- one layer
 
   expr_case : (x : Expr-F Expr RowVersion Scalar Term) (y : Expr-F E V S T) → parts_of y ≡ x → OfExpr (roll-Expr x)
-  unfolding walk version_walk scalar_walk term_walk mentions version_mentions scalar_mentions term_mentions
   expr_case x y is mentioned among =
-      let opened : walk tables variables (roll-Expr x) ≡ of_parts x = fold-roll-Expr Walk VersionWalk Walk TermWalk (expr_rule tables variables) (version_rule tables variables) (scalar_rule tables variables) (term_rule tables variables) x in
-      let said : mentions (roll-Expr x) ≡ form_mentions x = fold-roll-Expr (List Mention) (List Mention) (List Mention) (List Mention) of_expr of_version of_scalar of_term x in
-      let P : Expr-F Expr RowVersion Scalar Term → Type 0 = λ z. Among (form_mentions z) mentioned → ExplainedAt tables variables mentioned (of_parts z) in
-      subst (λ w. ExplainedAt tables variables mentioned w) (sym opened) (subst P is (form_explained y mentioned) (subst (λ m. Among m mentioned) said among))
+      let P : Expr-F Expr RowVersion Scalar Term → Type 0 = λ z. Among (form_mentions z) mentioned → ExplainedAt tables variables mentioned (form_walk tables variables z) in
+      subst (λ w. ExplainedAt tables variables mentioned w) (sym (walked tables variables x)) (subst P is (form_explained y mentioned) (subst (λ m. Among m mentioned) (said x) among))
 
   version_case : (x : RowVersion-F Expr RowVersion Scalar Term) (y : RowVersion-F E V S T) → version_parts y ≡ x → OfVersion (roll-RowVersion x)
-  unfolding walk version_walk scalar_walk term_walk mentions version_mentions scalar_mentions term_mentions
   version_case x y is mentioned among =
-      let opened : version_walk tables variables (roll-RowVersion x) ≡ version_of_parts x = fold-roll-RowVersion Walk VersionWalk Walk TermWalk (expr_rule tables variables) (version_rule tables variables) (scalar_rule tables variables) (term_rule tables variables) x in
-      let said : version_mentions (roll-RowVersion x) ≡ version_form_mentions x = fold-roll-RowVersion (List Mention) (List Mention) (List Mention) (List Mention) of_expr of_version of_scalar of_term x in
       let At : VersionWalk → Type 0 = λ w. (place : Place) → IsExplained tables variables mentioned (w place) in
-      let P : RowVersion-F Expr RowVersion Scalar Term → Type 0 = λ z. Among (version_form_mentions z) mentioned → At (version_of_parts z) in
-      subst At (sym opened) (subst P is (version_form_explained y mentioned) (subst (λ m. Among m mentioned) said among))
+      let P : RowVersion-F Expr RowVersion Scalar Term → Type 0 = λ z. Among (version_form_mentions z) mentioned → At (version_form_walk tables variables z) in
+      subst At (sym (version_walked tables variables x)) (subst P is (version_form_explained y mentioned) (subst (λ m. Among m mentioned) (version_said x) among))
 
   scalar_case : (x : Scalar-F Expr RowVersion Scalar Term) (y : Scalar-F E V S T) → scalar_parts y ≡ x → OfScalar (roll-Scalar x)
-  unfolding walk version_walk scalar_walk term_walk mentions version_mentions scalar_mentions term_mentions
   scalar_case x y is mentioned among =
-      let opened : scalar_walk tables variables (roll-Scalar x) ≡ scalar_of_parts x = fold-roll-Scalar Walk VersionWalk Walk TermWalk (expr_rule tables variables) (version_rule tables variables) (scalar_rule tables variables) (term_rule tables variables) x in
-      let said : scalar_mentions (roll-Scalar x) ≡ scalar_form_mentions x = fold-roll-Scalar (List Mention) (List Mention) (List Mention) (List Mention) of_expr of_version of_scalar of_term x in
-      let P : Scalar-F Expr RowVersion Scalar Term → Type 0 = λ z. Among (scalar_form_mentions z) mentioned → ExplainedAt tables variables mentioned (scalar_of_parts z) in
-      subst (λ w. ExplainedAt tables variables mentioned w) (sym opened) (subst P is (scalar_form_explained y mentioned) (subst (λ m. Among m mentioned) said among))
+      let P : Scalar-F Expr RowVersion Scalar Term → Type 0 = λ z. Among (scalar_form_mentions z) mentioned → ExplainedAt tables variables mentioned (scalar_form_walk tables variables z) in
+      subst (λ w. ExplainedAt tables variables mentioned w) (sym (scalar_walked tables variables x)) (subst P is (scalar_form_explained y mentioned) (subst (λ m. Among m mentioned) (scalar_said x) among))
 
   term_case : (x : Term-F Expr RowVersion Scalar Term) (y : Term-F E V S T) → term_parts y ≡ x → OfTerm (roll-Term x)
-  unfolding walk version_walk scalar_walk term_walk mentions version_mentions scalar_mentions term_mentions
   term_case x y is mentioned among =
-      let opened : term_walk tables variables (roll-Term x) ≡ term_of_parts x = fold-roll-Term Walk VersionWalk Walk TermWalk (expr_rule tables variables) (version_rule tables variables) (scalar_rule tables variables) (term_rule tables variables) x in
-      let said : term_mentions (roll-Term x) ≡ term_form_mentions x = fold-roll-Term (List Mention) (List Mention) (List Mention) (List Mention) of_expr of_version of_scalar of_term x in
-      let P : Term-F Expr RowVersion Scalar Term → Type 0 = λ z. Among (term_form_mentions z) mentioned → TermExplained tables variables mentioned (term_of_parts z) in
-      subst (λ w. TermExplained tables variables mentioned w) (sym opened) (subst P is (y.value.1 mentioned) (subst (λ m. Among m mentioned) said among))
+      let P : Term-F Expr RowVersion Scalar Term → Type 0 = λ z. Among (term_form_mentions z) mentioned → TermExplained tables variables mentioned (term_form_walk tables variables z) in
+      subst (λ w. TermExplained tables variables mentioned w) (sym (term_walked tables variables x)) (subst P is (y.value.1 mentioned) (subst (λ m. Among m mentioned) (term_said x) among))
 
   pub walk_explained : (e : Expr) (mentioned : List Mention) → Among (mentions e) mentioned → ExplainedAt tables variables mentioned (walk tables variables e)
   walk_explained = ind-Expr OfExpr OfVersion OfScalar OfTerm expr_case version_case scalar_case term_case

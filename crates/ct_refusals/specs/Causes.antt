@@ -32,8 +32,8 @@ abbrev pub Mentions : Stmt → Mention → Type 0
 Mentions statement mention = Contains (of_statement statement) mention
 
 -- Overflow: the statement mentions a number above 9,223,372,036,854,775,807
-abbrev pub MentionsTooLarge : Stmt → Type 0
-MentionsTooLarge statement = (digits : List ℕ) × Mentions statement (OfNumber digits) × IsNone (within 0 9223372036854775807 digits)
+abbrev pub MentionsTooLargeNumber : Stmt → Type 0
+MentionsTooLargeNumber statement = (digits : List ℕ) × Mentions statement (OfNumber digits) × IsNone (within 0 9223372036854775807 digits)
 
 -- ---- tables and variables of a name
 
@@ -127,9 +127,13 @@ written_retention (stmt.AlterDatabase database (option.TrackingOn options)) = op
 written_retention (stmt.AlterDatabase database (option.Tracking options)) = options.retention
 written_retention _ = None
 
--- BadRetention: ALTER DATABASE writes a retention whose number is not from 1 to 2,147,483,647
+-- a retention is written, and its number is not from 1 to 2,147,483,647
+abbrev pub IsBadRetention : Option Retention → Type 0
+IsBadRetention written = IsSomeAnd written (λ retention. IsNone (within 1 2147483647 retention.amount))
+
+-- BadRetention: ALTER DATABASE writes such a retention
 abbrev pub WritesBadRetention : Stmt → Type 0
-WritesBadRetention statement = IsSomeAnd (written_retention statement) (λ retention. IsNone (within 1 2147483647 retention.amount))
+WritesBadRetention statement = IsBadRetention (written_retention statement)
 
 -- ---- definitions
 
@@ -150,7 +154,7 @@ has_length type.BigInt = true
 has_length (type.NVarChar digits) = is_some (within 1 4000 digits)
 has_length (type.VarBinary digits) = is_some (within 1 8000 digits)
 
--- the names of the key are one, and it is that of a column of the table
+-- the key has one name, and a column of the table has it
 abbrev pub is_one_column : List ColumnDef → List (List ℕ) → Bool
 is_one_column columns [] = false
 is_one_column columns (name ∷ []) = is_some (id_from name 1 columns)
@@ -228,13 +232,20 @@ SetsKey tables _ name = ⊥
 
 -- ---- the causes
 
+-- the refusals of which a cause is stated here: all but a column that is not there, one that is ambiguous, and kinds that clash
+abbrev pub HasStatedCause : Refusal → Type 0
+HasStatedCause (NoColumn name) = ⊥
+HasStatedCause (Ambiguous name) = ⊥
+HasStatedCause TypeClash = ⊥
+HasStatedCause _ = Unit {0}
+
 -- The cause of each refusal. Of a column that is not there, of one that is ambiguous and of kinds that clash nothing is said here: their
 -- causes hang on a place in the statement and stand in the rules of the walk. Any other refusal is none of binding's, and has no cause.
 module _ (tables : List Catalogued) (keep : Option Keep) (variables : List Variable) (statement : Stmt) where
   abbrev pub HasCause : Refusal → Type 0
   HasCause (NoObject name) = IsNoObject tables statement name
   HasCause (Exists name) = Creates statement name × HasTable tables name
-  HasCause Overflow = MentionsTooLarge statement
+  HasCause Overflow = MentionsTooLargeNumber statement
   HasCause (NotTracked name) = Mentions statement (OfTracked name) × HasUntracked tables name
   HasCause (AlreadyTracked name) = IsAlreadyTracked tables keep statement name
   HasCause TrackingOff = NeedsTracking statement × IsNone keep
