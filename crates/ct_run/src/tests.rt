@@ -318,9 +318,9 @@ fn a_text_has_at_most_65536_bytes(rt: HostRuntime) -> Result<(), Fail> {
     Ok(())
 }
 
-/// Adds the definitions of 16 tables, whose names begin with this letter.
+/// Adds the definitions of 16 tables, whose names are this letter and another character.
 fn define_16(script: &mut Vec<u8>, first: u8) -> Result<(), AllocError> {
-    for second in b"abcdefghijklmnop" {
+    for second in b"0123456789_ghjkq" {
         script.extend_from_slice(b"1: CREATE TABLE ")?;
         script.push(first)?;
         script.push(*second)?;
