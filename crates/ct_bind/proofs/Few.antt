@@ -6,8 +6,8 @@ use Rattle.ct_types.specs.declared.catalogue.Catalogued.{Catalogued}
 use Rattle.ct_types.specs.declared.expr.ObjectName.{ObjectName}
 use Rattle.ct_types.specs.declared.refusal.Refusal.{Refusal}
 use Rattle.ct_types.specs.Answers.{or_refuse, Lends}
-use Rattle.ct_names.specs.Names.{same, table_name}
-use Rattle.ct_names.specs.Catalogue.{existing_table, table_named}
+use Rattle.ct_bind_names.specs.Names.{same, table_name}
+use Rattle.ct_bind_names.specs.Catalogue.{existing_table, table_named}
 use Rattle.ct_bind.specs.Limits.{HaveFewColumns}
 
 found_one : {X : Type 0} (P : X → Type 0) (b : Bool) (y x : X) (rest : Option X)

@@ -5,7 +5,7 @@ use Rattle.ct_types.specs.declared.catalogue.Variable.{Variable}
 use Rattle.ct_types.specs.declared.refusal.Refusal.{Refusal}
 use Rattle.ct_types.specs.declared.stmt.SelectItem.{SelectItem}
 use Rattle.ct_types.specs.Answers.{onto}
-use Rattle.ct_names.proofs.Walks.{onto_more, onto_stops}
+use Rattle.ct_bind_names.proofs.Walks.{onto_more, onto_stops}
 use Rattle.ct_bind_expr.specs.declared.place.Shape.{Shape}
 use Rattle.ct_bind.specs.declared.queries.Item.{Item}
 use Rattle.ct_bind.specs.Queries.{bound_item, items_of}

@@ -12,19 +12,19 @@ use Rattle.ct_types.specs.declared.schema.Column.{Column}
 use Rattle.ct_types.specs.declared.schema.Schema.{Schema}
 use Rattle.ct_types.specs.declared.stmt.ColumnDef.{ColumnDef}
 use Rattle.ct_types.specs.declared.stmt.SetColumn.{SetColumn}
-use Rattle.ct_kinds.specs.Kinds.{kind_of_type}
+use Rattle.ct_bind_kinds.specs.Kinds.{kind_of_type}
 use Rattle.ct_types.specs.declared.refusal.Refusal.{Refusal}
 use Rattle.ct_types.specs.declared.refusal.Refusal.TheVariants.{Ambiguous, KeyUpdate, TooMany, BadTable, Exists, AlreadyTracked, TrackingOff, TablesTracked, VariableExists}
 use Rattle.ct_types.specs.declared.bound.BoundWrite.{BoundWrite}
 use Rattle.ct_types.specs.declared.stmt.TableSource.{TableSource}
 use Rattle.ct_types.specs.Answers.{Answer, Gives, ◌>>=◌, ◌>>◌, demand, optional, each, each_after}
-use Rattle.ct_names.specs.Catalogue.{existing_table, tracked_table, table_named, declared_variable, is_declared}
+use Rattle.ct_bind_names.specs.Catalogue.{existing_table, tracked_table, table_named, declared_variable, is_declared}
 use Rattle.ct_bind_expr.specs.Places.{of_kind}
 use Rattle.ct_bind_expr.specs.Walk.{walk}
-use Rattle.ct_define.specs.Definitions.{create, enable, disable, alter_database, settings, defaults, tracked_count, schema_of, first_rules, key_names, defined_column, key_id, is_in_sys}
+use Rattle.ct_bind_definition.specs.Definitions.{create, enable, disable, alter_database, settings, defaults, tracked_count, schema_of, first_rules, key_names, defined_column, key_id, is_in_sys}
 use Rattle.ct_bind.specs.Sources.{condition}
 use Rattle.ct_bind.proofs.Few.{found_has}
-use Rattle.ct_names.specs.Names.{same, table_name, last_part}
+use Rattle.ct_bind_names.specs.Names.{same, table_name, last_part}
 use Rattle.ct_bind_expr.specs.declared.place.Place.{Place}
 use Rattle.ct_bind.specs.declared.writes.Target.{Target}
 use Rattle.ct_bind.specs.Limits.{HaveFewColumns, ChangeKeepsLimits, KeepsLimits}
@@ -38,9 +38,9 @@ use Rattle.ct_types.specs.declared.stmt.Stmt.{Stmt}
 use Rattle.ct_types.specs.declared.stmt.Stmt.TheVariants as stmt
 use Rattle.ct_types.specs.declared.stmt.WriteStmt.{WriteStmt}
 use Rattle.ct_types.specs.declared.stmt.WriteStmt.TheVariants as write
-use Rattle.ct_names.specs.Numbers.{column_type}
+use Rattle.ct_bind_names.specs.Numbers.{column_type}
 use Rattle.ct_bind.specs.Writes.{target, target_from, table_target, is_set, is_key, set_target, set_of, update_change, updated_name, row_named, context_of, update, insert, insert_change, insert_targets, tuple_of, delete, delete_change, write_of}
-use Rattle.ct_bind.proofs.Kept.{Kept, ok_kept, err_kept, then_kept, after_kept, or_kept}
+use Rattle.ct_types.proofs.AnswersKept.{Kept, ok_kept, err_kept, then_kept, after_kept, found_kept}
 
 abbrev Narrow : ℕ → Type 0
 Narrow id = (0 < id) × (id ≤ 64)
@@ -58,7 +58,7 @@ target_narrow name id (column ∷ more) it low high e =
 
 table_narrow : (table : Schema) (name : List ℕ) → length table.columns ≤ 64 → Kept (λ it. Narrow it.column) (table_target table name)
 unfolding table_target
-table_narrow table name few = or_kept (λ it. Narrow it.column) (target_from name 1 table.columns) _ (λ it e. target_narrow name 1 table.columns it (omega arith) (omega arith) e)
+table_narrow table name few = found_kept (λ it. Narrow it.column) (target_from name 1 table.columns) _ (λ it e. target_narrow name 1 table.columns it (omega arith) (omega arith) e)
 
 set_target_narrow : (table : Schema) (before : List SetColumn) (name : List ℕ) → length table.columns ≤ 64 → Kept (λ it. Narrow it.column) (set_target table before name)
 unfolding set_target
@@ -93,7 +93,7 @@ module _ (tables : List Catalogued) (variables : List Variable) where
   existing_few : (name : ObjectName) → HaveFewColumns tables → Kept (λ table. length table.schema.columns ≤ 64) (existing_table tables name)
   unfolding existing_table table_named
   existing_few name few =
-      or_kept (λ table. length table.schema.columns ≤ 64) (find (λ table. same table.schema.name (table_name name)) tables) _
+      found_kept (λ table. length table.schema.columns ≤ 64) (find (λ table. same table.schema.name (table_name name)) tables) _
       (λ table e. found_has (λ table. length table.schema.columns ≤ 64) (λ table. same table.schema.name (table_name name)) tables table few e)
 
   abbrev WriteKeeps : BoundWrite → Type 0

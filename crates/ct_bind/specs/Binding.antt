@@ -14,17 +14,17 @@ use Rattle.ct_types.specs.declared.stmt.Stmt.TheVariants as stmt
 use Rattle.ct_types.specs.declared.stmt.TypeName.{TypeName}
 use Rattle.ct_types.specs.declared.stmt.TypeName.TheVariants as name
 use Rattle.ct_types.specs.declared.refusal.Refusal.TheVariants.{VariableExists}
-use Rattle.ct_kinds.specs.declared.kind.Kind.{Kind}
-use Rattle.ct_kinds.specs.declared.kind.Kind.TheVariants.{Number, Text, Bytes}
-use Rattle.ct_kinds.specs.Kinds.{kind_of_type}
+use Rattle.ct_bind_kinds.specs.declared.kind.Kind.{Kind}
+use Rattle.ct_bind_kinds.specs.declared.kind.Kind.TheVariants.{Number, Text, Bytes}
+use Rattle.ct_bind_kinds.specs.Kinds.{kind_of_type}
 use Rattle.ct_types.specs.Answers.{Answer, ◌>>=◌, ◌>>◌, demand, optional}
-use Rattle.ct_names.specs.Numbers.{column_type}
-use Rattle.ct_names.specs.Catalogue.{existing_table, declared_variable, is_declared}
+use Rattle.ct_bind_names.specs.Numbers.{column_type}
+use Rattle.ct_bind_names.specs.Catalogue.{existing_table, declared_variable, is_declared}
 use Rattle.ct_bind_expr.specs.Places.{of_kind, row_of}
 use Rattle.ct_bind_expr.specs.Walk.{walk}
 use Rattle.ct_bind.specs.Queries.{select}
 use Rattle.ct_bind.specs.Writes.{write_of}
-use Rattle.ct_define.specs.Definitions.{create, enable, disable, alter_database}
+use Rattle.ct_bind_definition.specs.Definitions.{create, enable, disable, alter_database}
 
 -- the kind of a type as it is written
 abbrev pub kind_of_name : TypeName → Kind

@@ -3,4 +3,3 @@ pub mod Sources
 pub mod Queries
 pub mod Writes
 pub mod Binding
-pub mod Laws

@@ -10,7 +10,7 @@ use Rattle.ct_types.specs.declared.catalogue.Catalogued.{Catalogued}
 abbrev pub HaveFewColumns : List Catalogued → Type 0
 HaveFewColumns tables = AllByRecursion (λ table. length table.schema.columns ≤ 64) tables
 
--- the columns of a SET list are among those of a table
+-- the columns of a SET list have ids from 1 to 64
 abbrev pub ChangeKeepsLimits : RowChange → Type 0
 ChangeKeepsLimits (Update sets filter) = All (λ id. (0 < id) × (id ≤ 64)) (map (λ set. set.column) sets)
 ChangeKeepsLimits _ = Unit {0}

@@ -17,7 +17,7 @@ use Rattle.ct_types.specs.declared.stmt.SelectItem.{SelectItem}
 use Rattle.ct_types.specs.declared.stmt.SelectItem.TheVariants as wanted
 use Rattle.ct_types.specs.declared.refusal.Refusal.TheVariants.{NoColumn, TypeClash}
 use Rattle.ct_types.specs.Answers.{Answer, ◌>>=◌, ◌>>◌, demand, optional, each}
-use Rattle.ct_names.specs.Names.{same}
+use Rattle.ct_bind_names.specs.Names.{same}
 use Rattle.ct_bind_expr.specs.declared.place.Typed.{Typed}
 use Rattle.ct_bind_expr.specs.declared.place.Shown.{Shown}
 use Rattle.ct_bind_expr.specs.declared.place.Shape.{Shape}

@@ -25,14 +25,14 @@ use Rattle.ct_types.specs.declared.stmt.Source.TheVariants as source
 use Rattle.ct_types.specs.declared.stmt.TableSource.{TableSource}
 use Rattle.ct_types.specs.declared.stmt.VersionSource.{VersionSource}
 use Rattle.ct_types.specs.declared.refusal.Refusal.TheVariants.{NoObject, Ambiguous}
-use Rattle.ct_kinds.specs.declared.kind.Kind.{Kind}
-use Rattle.ct_kinds.specs.declared.kind.Kind.TheVariants.{Number, Text, Bytes, Condition}
-use Rattle.ct_kinds.specs.Kinds.{kind_of_type}
-use Rattle.ct_names.specs.declared.catalogue.SystemTable.{SystemTable}
-use Rattle.ct_names.specs.declared.catalogue.SystemTable.TheVariants.{Commits, Tracking}
+use Rattle.ct_bind_kinds.specs.declared.kind.Kind.{Kind}
+use Rattle.ct_bind_kinds.specs.declared.kind.Kind.TheVariants.{Number, Text, Bytes, Condition}
+use Rattle.ct_bind_kinds.specs.Kinds.{kind_of_type}
+use Rattle.ct_bind_names.specs.declared.catalogue.SystemTable.{SystemTable}
+use Rattle.ct_bind_names.specs.declared.catalogue.SystemTable.TheVariants.{Commits, Tracking}
 use Rattle.ct_types.specs.Answers.{Answer, ◌>>=◌, ◌>>◌, demand}
-use Rattle.ct_names.specs.Names.{same, table_name, last_part}
-use Rattle.ct_names.specs.Catalogue.{existing_table, tracked_table, system_table}
+use Rattle.ct_bind_names.specs.Names.{same, table_name, last_part}
+use Rattle.ct_bind_names.specs.Catalogue.{existing_table, tracked_table, system_table}
 use Rattle.ct_bind_expr.specs.declared.place.Shown.{Shown}
 use Rattle.ct_bind_expr.specs.declared.place.Shape.{Shape}
 use Rattle.ct_bind_expr.specs.declared.place.Place.{Place}

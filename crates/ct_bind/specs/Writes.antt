@@ -18,12 +18,12 @@ use Rattle.ct_types.specs.declared.stmt.TableSource.{TableSource}
 use Rattle.ct_types.specs.declared.stmt.WriteStmt.{WriteStmt}
 use Rattle.ct_types.specs.declared.stmt.WriteStmt.TheVariants as write
 use Rattle.ct_types.specs.declared.refusal.Refusal.TheVariants.{NoColumn, NoObject, Ambiguous, KeyUpdate, TooMany}
-use Rattle.ct_kinds.specs.declared.kind.Kind.{Kind}
-use Rattle.ct_kinds.specs.declared.kind.Kind.TheVariants.{Bytes}
-use Rattle.ct_kinds.specs.Kinds.{kind_of_type}
+use Rattle.ct_bind_kinds.specs.declared.kind.Kind.{Kind}
+use Rattle.ct_bind_kinds.specs.declared.kind.Kind.TheVariants.{Bytes}
+use Rattle.ct_bind_kinds.specs.Kinds.{kind_of_type}
 use Rattle.ct_types.specs.Answers.{Answer, ◌>>=◌, ◌>>◌, demand, or_refuse, optional, each, each_after}
-use Rattle.ct_names.specs.Names.{same, is_among, table_name, last_part}
-use Rattle.ct_names.specs.Catalogue.{existing_table}
+use Rattle.ct_bind_names.specs.Names.{same, is_among, table_name, last_part}
+use Rattle.ct_bind_names.specs.Catalogue.{existing_table}
 use Rattle.ct_bind_expr.specs.declared.place.Place.{Place}
 use Rattle.ct_bind_expr.specs.Places.{of_kind, closed, row_of}
 use Rattle.ct_bind_expr.specs.Versions.{tuple}

@@ -7,8 +7,8 @@ ghost use Rattle.ct_bind.specs.Queries as spec;
 
 use crate::sources::{Joined, condition, join_sources};
 use ct_bind_expr::{Binder, Output, Place, Shape, Shown, Spot, Typed, any_value};
-use ct_kinds::is_value;
-use ct_names::{place_after, same_name};
+use ct_bind_kinds::is_value;
+use ct_bind_names::{place_after, same_name};
 use ct_types::{
     BoundExpr, BoundSelect, BoundSource, Copies, Expr, FromClause, Join, List, Memory, OrderBy,
     OrderItem, Plan, Refusal, Select, SelectItem, Text, push,
@@ -186,7 +186,7 @@ fn order_by(binder: &Binder<'_>, place: &Place, it: &OrderItem) -> Result<OrderB
     })
 }
 
-#[tactic(auto, using(ct_names::proofs::Walks::each_onto, ct_names::proofs::Walks::each_stops))]
+#[tactic(auto, using(ct_bind_names::proofs::Walks::each_onto, ct_bind_names::proofs::Walks::each_stops))]
 fn each_order_by(
     binder: &Binder<'_>,
     place: &Place,

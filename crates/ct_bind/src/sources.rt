@@ -3,13 +3,13 @@ ghost use Rattle.std.specs.List.{list_any};
 ghost use Rattle.ct_types.specs.declared.bound.Join.TheVariants.{Apply};
 ghost use Rattle.ct_types.specs.declared.refusal.Refusal.TheVariants.{Memory as no_memory};
 ghost use Rattle.ct_types.specs.Answers.{Gives};
-ghost use Rattle.ct_names.specs.Names.{same};
+ghost use Rattle.ct_bind_names.specs.Names.{same};
 ghost use Rattle.ct_bind_expr.specs.Places.{row_of};
 ghost use Rattle.ct_bind.specs.Sources as spec;
 
 use ct_bind_expr::{Binder, Place, Shape, Shown, key_columns, of_kind};
-use ct_kinds::{Kind, kind_of_type};
-use ct_names::{
+use ct_bind_kinds::{Kind, kind_of_type};
+use ct_bind_names::{
     SystemTable, existing_table, last_part, same_name, system_table, table_name, tracked_table,
 };
 use ct_types::{

@@ -6,9 +6,9 @@ ghost use Rattle.ct_bind.specs.Limits.{HaveFewColumns, KeepsLimits};
 use crate::queries::select;
 use crate::writes::write_of;
 use ct_bind_expr::{Binder, Place, of_kind};
-use ct_define::{alter_database, create, disable, enable};
-use ct_kinds::{Kind, kind_of_type};
-use ct_names::{column_type, declared_variable, existing_table, is_declared};
+use ct_bind_definition::{alter_database, create, disable, enable};
+use ct_bind_kinds::{Kind, kind_of_type};
+use ct_bind_names::{column_type, declared_variable, existing_table, is_declared};
 use ct_types::{
     Bound, BoundExpr, Catalogued, Copies, Expr, Keep, List, ObjectName, Refusal, Stmt, Text,
     TypeName, Variables,

@@ -1,15 +1,15 @@
 ghost use Rattle.std.specs.Prelude.{◌≡◌, ◌≤◌, [], map, length, IfOk};
 ghost use Rattle.ct_types.specs.Answers.{Gives, Lends, each, each_after, optional};
-ghost use Rattle.ct_names.specs.Names.{same, table_name as name_of};
-ghost use Rattle.ct_names.specs.Catalogue.{existing_table as table_of};
+ghost use Rattle.ct_bind_names.specs.Names.{same, table_name as name_of};
+ghost use Rattle.ct_bind_names.specs.Catalogue.{existing_table as table_of};
 ghost use Rattle.ct_bind.specs.Limits.{HaveFewColumns};
 ghost use Rattle.ct_bind.specs.Writes as spec;
 
 use crate::queries::filter_of;
 use crate::sources::{source_name, table_shape};
 use ct_bind_expr::{Binder, Place, of_kind};
-use ct_kinds::{Kind, kind_of_type};
-use ct_names::{existing_table, is_among, last_part, same_name, table_name};
+use ct_bind_kinds::{Kind, kind_of_type};
+use ct_bind_names::{existing_table, is_among, last_part, same_name, table_name};
 use ct_types::{
     BoundExpr, BoundSet, BoundWrite, Catalogued, Column, Copies, Expr, List, Memory, ObjectName,
     Refusal, RowChange, Schema, SetColumn, TableSource, Text, WriteStmt, push,
@@ -94,7 +94,7 @@ fn listed_target(
     Ok(target)
 }
 
-#[tactic(auto, using(ct_names::proofs::Walks::each_after_onto, ct_names::proofs::Walks::each_after_stops))]
+#[tactic(auto, using(ct_bind_names::proofs::Walks::each_after_onto, ct_bind_names::proofs::Walks::each_after_stops))]
 fn listed_targets(alloc: Global, table: &Schema, names: &[Text]) -> Result<List<Target>, Refusal>
     requires { length table.now.columns ≤ 64 }
     ensures { Gives (each_after (spec.listed_target table.now) [] names.now) result }
@@ -255,7 +255,7 @@ fn tuple_of(
     binder.tuple(&place, kinds.as_slice(), values)
 }
 
-#[tactic(auto, using(ct_names::proofs::Walks::each_onto, ct_names::proofs::Walks::each_stops))]
+#[tactic(auto, using(ct_bind_names::proofs::Walks::each_onto, ct_bind_names::proofs::Walks::each_stops))]
 fn tuples_of(
     binder: &Binder<'_>,
     targets: &[Target],
@@ -312,7 +312,7 @@ fn set_of(
     })
 }
 
-#[tactic(auto, using(ct_names::proofs::Walks::each_after_onto, ct_names::proofs::Walks::each_after_stops))]
+#[tactic(auto, using(ct_bind_names::proofs::Walks::each_after_onto, ct_bind_names::proofs::Walks::each_after_stops))]
 fn sets_of(
     binder: &Binder<'_>,
     table: &Schema,

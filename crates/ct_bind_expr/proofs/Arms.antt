@@ -12,7 +12,7 @@ use Rattle.ct_types.specs.declared.expr.Expr.TheFolds.{fold-roll-Expr}
 use Rattle.ct_types.specs.declared.expr.RowVersion.{RowVersion}
 use Rattle.ct_types.specs.declared.expr.Scalar.{Scalar}
 use Rattle.ct_types.specs.declared.expr.Term.{Term}
-use Rattle.ct_kinds.specs.declared.kind.Kind.TheVariants.{Number, Condition, Null}
+use Rattle.ct_bind_kinds.specs.declared.kind.Kind.TheVariants.{Number, Condition, Null}
 use Rattle.ct_types.specs.Answers.{Answer, ◌>>=◌, Gives}
 use Rattle.ct_bind_expr.specs.declared.place.Typed.{Typed}
 use Rattle.ct_bind_expr.specs.declared.place.WalkedTerm.{WalkedTerm}

@@ -2,9 +2,9 @@
 use Rattle.std.proofs.Common.{◌≡◌, List, [], ◌∷◌, ◌++◌, Ok, Err, ap, ◌∙◌}
 use Rattle.ct_types.specs.declared.bound.BoundExpr.{BoundExpr}
 use Rattle.ct_types.specs.declared.refusal.Refusal.{Refusal}
-use Rattle.ct_kinds.specs.declared.kind.Kind.{Kind}
+use Rattle.ct_bind_kinds.specs.declared.kind.Kind.{Kind}
 use Rattle.ct_types.specs.Answers.{◌>>=◌, onto}
-use Rattle.ct_names.proofs.Walks.{onto_one}
+use Rattle.ct_bind_names.proofs.Walks.{onto_one}
 use Rattle.ct_bind_expr.specs.declared.place.Place.{Place}
 use Rattle.ct_bind_expr.specs.Versions.{Walk, operand, values}
 

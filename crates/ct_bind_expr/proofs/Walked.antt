@@ -11,10 +11,10 @@ use Rattle.ct_types.specs.declared.bound.BoundTerm.{BoundTerm}
 use Rattle.ct_types.specs.declared.bound.BoundRowVersion.{BoundRowVersion, roll-BoundRowVersion}
 use Rattle.ct_types.specs.declared.refusal.Refusal.TheVariants.{CountClash}
 use Rattle.ct_types.specs.declared.schema.Schema.{Schema}
-use Rattle.ct_kinds.specs.declared.kind.Kind.{Kind}
-use Rattle.ct_kinds.specs.declared.kind.Kind.TheVariants.{Number}
+use Rattle.ct_bind_kinds.specs.declared.kind.Kind.{Kind}
+use Rattle.ct_bind_kinds.specs.declared.kind.Kind.TheVariants.{Number}
 use Rattle.ct_types.specs.Answers.{Answer, ◌>>=◌, ◌>>◌, demand, each}
-use Rattle.ct_names.specs.Catalogue.{tracked_table}
+use Rattle.ct_bind_names.specs.Catalogue.{tracked_table}
 use Rattle.ct_bind_expr.specs.declared.place.Typed.{Typed}
 use Rattle.ct_bind_expr.specs.declared.place.Place.{Place}
 use Rattle.ct_bind_expr.specs.declared.place.WalkedTerm.{WalkedTerm}

@@ -1,15 +1,15 @@
--- What names of columns mean at a place of a statement. That a column of two sources is refused, and what ORDER BY may
--- name, is as in T-SQL; which refusal answers is this project's own.
+-- What names of columns mean at a place of a statement. That a column of two sources is refused is as in T-SQL; what ORDER BY may
+-- name, and which refusal answers, is this project's own.
 use Rattle.std.specs.Prelude.{ℕ, ◌+◌, Bool, true, false, ◌&&◌, List, [], ◌∷◌, ◌++◌, ◌==◌, count_by, length, find, if◌then◌else◌, Option, Some, None, Ok, Err}
 use Rattle.ct_types.specs.declared.bound.BoundExpr.{BoundExpr}
 use Rattle.ct_types.specs.declared.bound.BoundExpr.TheVariants.{Column as column_here}
 use Rattle.ct_types.specs.declared.expr.ColumnName.{ColumnName}
 use Rattle.ct_types.specs.declared.refusal.Refusal.TheVariants.{NoColumn, Ambiguous, TypeClash}
-use Rattle.ct_kinds.specs.declared.kind.Kind.{Kind}
-use Rattle.ct_kinds.specs.declared.kind.Kind.TheVariants.{Condition}
-use Rattle.ct_kinds.specs.Kinds.{is_value, suits}
+use Rattle.ct_bind_kinds.specs.declared.kind.Kind.{Kind}
+use Rattle.ct_bind_kinds.specs.declared.kind.Kind.TheVariants.{Condition}
+use Rattle.ct_bind_kinds.specs.Kinds.{is_value, suits}
 use Rattle.ct_types.specs.Answers.{Answer, ◌>>=◌, ◌>>◌, demand}
-use Rattle.ct_names.specs.Names.{same}
+use Rattle.ct_bind_names.specs.Names.{same}
 use Rattle.ct_bind_expr.specs.declared.place.Typed.{Typed}
 use Rattle.ct_bind_expr.specs.declared.place.Shown.{Shown}
 use Rattle.ct_bind_expr.specs.declared.place.Shape.{Shape}
@@ -22,7 +22,7 @@ use Rattle.ct_bind_expr.specs.declared.place.Place.{Place}
 abbrev pub typed : BoundExpr → Kind → Typed
 typed expr kind = record { expr = expr; kind = kind }
 
--- The judgement that every TypeClash of kinds comes from: an expression of the first kind may stand where the second is
+-- The judgement of kinds where one is wanted: an expression of the first kind may stand where the second is
 -- wanted. A condition stands for a condition alone; a value for one of its kind, and NULL for every value.
 abbrev pub is_a : Kind → Kind → Bool
 is_a Condition Condition = true

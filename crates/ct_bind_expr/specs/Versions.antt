@@ -10,12 +10,12 @@ use Rattle.ct_types.specs.declared.bound.VersionColumn.TheVariants.{Version, Con
 use Rattle.ct_types.specs.declared.schema.Column.{Column}
 use Rattle.ct_types.specs.declared.schema.Schema.{Schema}
 use Rattle.ct_types.specs.declared.refusal.Refusal.TheVariants.{NoColumn, CountClash}
-use Rattle.ct_kinds.specs.declared.kind.Kind.{Kind}
-use Rattle.ct_kinds.specs.declared.kind.Kind.TheVariants.{Number, Bytes}
-use Rattle.ct_kinds.specs.Kinds.{kind_of_type}
-use Rattle.ct_kinds.specs.WellFormed.{column_of}
+use Rattle.ct_bind_kinds.specs.declared.kind.Kind.{Kind}
+use Rattle.ct_bind_kinds.specs.declared.kind.Kind.TheVariants.{Number, Bytes}
+use Rattle.ct_bind_kinds.specs.Kinds.{kind_of_type}
+use Rattle.ct_bind_kinds.specs.WellFormed.{column_of}
 use Rattle.ct_types.specs.Answers.{Answer, ◌>>=◌, ◌>>◌, demand, or_refuse, each_after}
-use Rattle.ct_names.specs.Names.{same, is_among, place_of}
+use Rattle.ct_bind_names.specs.Names.{same, is_among, place_of}
 use Rattle.ct_bind_expr.specs.declared.place.Typed.{Typed}
 use Rattle.ct_bind_expr.specs.declared.place.Place.{Place}
 use Rattle.ct_bind_expr.specs.Places.{of_kind}

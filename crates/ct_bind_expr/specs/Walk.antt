@@ -20,13 +20,13 @@ use Rattle.ct_types.specs.declared.expr.Scalar.{Scalar}
 use Rattle.ct_types.specs.declared.expr.Term.{Term}
 use Rattle.ct_types.specs.declared.schema.Schema.{Schema}
 use Rattle.ct_types.specs.declared.refusal.Refusal.TheVariants.{NoColumn, TypeClash}
-use Rattle.ct_kinds.specs.declared.kind.Kind.{Kind}
-use Rattle.ct_kinds.specs.declared.kind.Kind.TheVariants.{Number, Text, Bytes, Condition, Null}
-use Rattle.ct_kinds.specs.Kinds.{kind_of_type, either}
+use Rattle.ct_bind_kinds.specs.declared.kind.Kind.{Kind}
+use Rattle.ct_bind_kinds.specs.declared.kind.Kind.TheVariants.{Number, Text, Bytes, Condition, Null}
+use Rattle.ct_bind_kinds.specs.Kinds.{kind_of_type, either}
 use Rattle.ct_types.specs.Answers.{Answer, ◌>>=◌, ◌>>◌, demand, each}
-use Rattle.ct_names.specs.Names.{same}
-use Rattle.ct_names.specs.Numbers.{literal}
-use Rattle.ct_names.specs.Catalogue.{tracked_table, declared_variable}
+use Rattle.ct_bind_names.specs.Names.{same}
+use Rattle.ct_bind_names.specs.Numbers.{literal}
+use Rattle.ct_bind_names.specs.Catalogue.{tracked_table, declared_variable}
 use Rattle.ct_bind_expr.specs.declared.place.Typed.{Typed}
 use Rattle.ct_bind_expr.specs.declared.place.Place.{Place}
 use Rattle.ct_bind_expr.specs.Places.{typed, of_kind, any_value, go_together, column}

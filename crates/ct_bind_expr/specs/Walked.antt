@@ -3,9 +3,9 @@ use Rattle.std.specs.Prelude.{List, [], ◌∷◌, map, Ok}
 use Rattle.ct_types.specs.declared.bound.BoundExpr.{BoundExpr}
 use Rattle.ct_types.specs.declared.catalogue.Catalogued.{Catalogued}
 use Rattle.ct_types.specs.declared.expr.Scalar.{Scalar}
-use Rattle.ct_kinds.specs.declared.kind.Kind.{Kind}
+use Rattle.ct_bind_kinds.specs.declared.kind.Kind.{Kind}
 use Rattle.ct_types.specs.Answers.{Answer, ◌>>=◌, ◌>>◌}
-use Rattle.ct_names.specs.Catalogue.{tracked_table}
+use Rattle.ct_bind_names.specs.Catalogue.{tracked_table}
 use Rattle.ct_bind_expr.specs.declared.place.Typed.{Typed}
 use Rattle.ct_bind_expr.specs.declared.place.WalkedTerm.{WalkedTerm}
 use Rattle.ct_bind_expr.specs.Places.{typed, closed}

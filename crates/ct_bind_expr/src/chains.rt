@@ -12,8 +12,8 @@ use crate::kinds::of_kind;
 use crate::made::{add, boxed};
 use crate::place::{Typed, Walked, WalkedTerm};
 use crate::versions::{in_key_order, key_columns, listed_kinds};
-use ct_kinds::Kind;
-use ct_names::place_after;
+use ct_bind_kinds::Kind;
+use ct_bind_names::place_after;
 use ct_types::{
     BoundExpr, BoundRowVersion, BoundTerm, Copies, List, Memory, Refusal, Schema, Text,
 };
@@ -41,7 +41,7 @@ fn both_walked(alloc: Global, first: &Walked, second: &Walked) -> Result<(), Ref
 }
 
 /// Operands, each of this kind.
-#[tactic(auto, unfolding(crate::specs::Versions::operand), using(ct_names::proofs::Walks::each_onto, ct_names::proofs::Walks::each_stops))]
+#[tactic(auto, unfolding(crate::specs::Versions::operand), using(ct_bind_names::proofs::Walks::each_onto, ct_bind_names::proofs::Walks::each_stops))]
 fn operands(alloc: Global, wanted: Kind, answers: List<Walked>) -> Result<Items<BoundExpr>, Refusal>
     ensures { Gives (each (versions.operand wanted closed) (map walked answers)) result }
 {
@@ -105,7 +105,7 @@ pub(crate) fn disjunction(alloc: Global, answers: List<Walked>) -> Walked
 }
 
 /// The operands of a sum after the first.
-#[tactic(auto, unfolding(crate::specs::Walk::further_term, crate::specs::Versions::operand), using(ct_names::proofs::Walks::each_onto, ct_names::proofs::Walks::each_stops))]
+#[tactic(auto, unfolding(crate::specs::Walk::further_term, crate::specs::Versions::operand), using(ct_bind_names::proofs::Walks::each_onto, ct_bind_names::proofs::Walks::each_stops))]
 fn terms(alloc: Global, more: List<WalkedTerm>) -> Result<Items<BoundTerm>, Refusal>
     ensures { Gives (each (spec.further_term closed) (map walked_term more)) result }
 {

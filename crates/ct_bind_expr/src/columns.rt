@@ -4,7 +4,7 @@ ghost use Rattle.ct_types.specs.Answers.{Gives};
 ghost use Rattle.ct_bind_expr.specs.Places as spec;
 
 use crate::place::{Output, Place, Shape, Shown, Spot, Typed};
-use ct_names::{place_after, same_name};
+use ct_bind_names::{place_after, same_name};
 use ct_types::{BoundExpr, ColumnName, Copies, List, Memory, Refusal, Text};
 use std::alloc::Global;
 

@@ -2,7 +2,7 @@ ghost use Rattle.std.specs.Prelude.{◌≡◌};
 ghost use Rattle.ct_bind_expr.specs.Places as spec;
 
 use crate::place::Typed;
-use ct_kinds::{Kind, is_value, suits};
+use ct_bind_kinds::{Kind, is_value, suits};
 use ct_types::{BoundExpr, Refusal};
 
 fn is_a(kind: Kind, wanted: Kind) -> bool

@@ -7,8 +7,8 @@ ghost use Rattle.ct_bind_expr.specs.Walked.{both as two_walked, three as three_w
 use crate::kinds::{any_value, go_together, of_kind};
 use crate::made::boxed;
 use crate::place::{Typed, Walked};
-use ct_kinds::{Kind, either};
-use ct_names::literal;
+use ct_bind_kinds::{Kind, either};
+use ct_bind_names::literal;
 use ct_types::{Bin, BoundExpr, Comparison, Copies, Refusal, Text};
 use sqlite_items::Boxed;
 use std::alloc::Global;

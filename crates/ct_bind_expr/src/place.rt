@@ -1,4 +1,4 @@
-use ct_kinds::Kind;
+use ct_bind_kinds::Kind;
 use ct_types::{BoundExpr, List, Refusal, Text};
 use std::alloc::Global;
 

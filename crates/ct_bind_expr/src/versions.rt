@@ -1,12 +1,12 @@
 ghost use Rattle.std.specs.Prelude.{◌≡◌, [], IfOk};
 ghost use Rattle.std.specs.Option.{option_copied};
 ghost use Rattle.ct_types.specs.Answers.{Gives, each_after};
-ghost use Rattle.ct_kinds.specs.WellFormed as kinds;
+ghost use Rattle.ct_bind_kinds.specs.WellFormed as kinds;
 ghost use Rattle.ct_bind_expr.specs.Versions as spec;
 
 use crate::copy::copy_expr;
-use ct_kinds::{Kind, kind_of_type};
-use ct_names::{is_among, place_after, place_of, same_name};
+use ct_bind_kinds::{Kind, kind_of_type};
+use ct_bind_names::{is_among, place_after, place_of, same_name};
 use ct_types::{
     BoundExpr, Column, Copies, List, Memory, Refusal, Schema, Text, VersionColumn, push,
 };
@@ -67,7 +67,7 @@ fn missing<'a>(key: &'a [Column], names: &[Text]) -> Option<&'a Column>
     key.iter().find(|column| !is_among(&column.name, names))
 }
 
-#[tactic(auto, using(ct_names::proofs::Walks::each_after_onto, ct_names::proofs::Walks::each_after_stops))]
+#[tactic(auto, using(ct_bind_names::proofs::Walks::each_after_onto, ct_bind_names::proofs::Walks::each_after_stops))]
 fn each_listed_kind(alloc: Global, key: &[Column], names: &[Text]) -> Result<List<Kind>, Refusal>
     ensures { Gives (each_after (spec.listed_kind key.now) [] names.now) result }
 {

@@ -13,8 +13,8 @@ use crate::operators::{
 };
 use crate::place::{Place, Typed, Walked, WalkedTerm};
 use crate::versions::version_column;
-use ct_kinds::{Kind, kind_of_type};
-use ct_names::{declared_variable, same_name, tracked_table};
+use ct_bind_kinds::{Kind, kind_of_type};
+use ct_bind_names::{declared_variable, same_name, tracked_table};
 use ct_types::{
     BoundExpr, BoundRowVersion, BoundScalar, Catalogued, Copies, Expr, List, Memory, Refusal,
     Scalar, Schema, Term, Text, Variable, push,

@@ -10,11 +10,11 @@ use Rattle.ct_model.specs.declared.db.Table.{Table}
 use Rattle.ct_model.specs.Tables.{catalogued, table_of}
 use Rattle.ct_types.specs.Answers.{Answer}
 use Rattle.ct_bind.specs.Binding.{binding}
-use Rattle.ct_built.specs.Built.{is_built}
+use Rattle.ct_machine.specs.Built.{is_built}
 use Rattle.ct_write.specs.Duplicates.{duplicate}
 use Rattle.ct_write.specs.Writes.{writes_of}
-use Rattle.ct_machine.specs.declared.command.Command.{Command}
-use Rattle.ct_machine.specs.declared.command.Command.TheVariants.{Sql, Wrong}
+use Rattle.ct_types.specs.declared.command.Command.{Command}
+use Rattle.ct_types.specs.declared.command.Command.TheVariants.{Sql, Wrong}
 use Rattle.ct_machine.specs.declared.decision.Decision.{Decision}
 use Rattle.ct_machine.specs.declared.decision.Decision.TheVariants.{Refuses, Answers, Commits}
 use Rattle.ct_machine.specs.Decide.{answered, counted, decide, decide_bound, fitted, once_bound, without_duplicates, written}

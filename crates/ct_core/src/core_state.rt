@@ -3,7 +3,8 @@ ghost use Rattle.ct_machine.specs.Machine.{Machine, db_of};
 ghost use Rattle.ct_machine.specs.Step.{entry_of, has_room as has_room_for};
 
 use crate::decide::decide_command;
-use ct_machine::{Command, Decision, draws_version, has_number};
+use ct_machine::{Decision, draws_version, has_number};
+use ct_types::Command;
 use ct_model::{Db, apply};
 use ct_types::{Act, Entry, Memory, Refusal, Reply};
 use std::alloc::Global;
@@ -85,7 +86,7 @@ impl<D> Core<D> {
     ghost use Rattle.ct_machine.specs.Machine.{opening};
     ghost use Rattle.ct_machine.specs.Play.{Follows, after, is_memory};
     ghost use Rattle.ct_machine.specs.Step.{step};
-    ghost use Rattle.ct_machine_laws.specs.Sound.{RowsFit};
+    ghost use Rattle.ct_machine.specs.Fits.{RowsFit};
     ghost use Rattle.ct_core.specs.Range.{ActIsNarrow};
     ghost use Rattle.ct_core.specs.Stands.{IsSettled, Stands};
 

@@ -8,13 +8,14 @@ ghost use Rattle.ct_bind.specs.Binding.{binding};
 ghost use Rattle.ct_bind.specs.Limits.{KeepsLimits};
 ghost use Rattle.ct_machine.specs.Decide as spec;
 ghost use Rattle.ct_machine.specs.Reads.{catalogue as catalogue_of, selected as selected_in, world_of};
-ghost use Rattle.ct_machine_laws.specs.Sound.{AnswerFits, FitsOn, RowsFit, WriteFits};
+ghost use Rattle.ct_machine.specs.Fits.{AnswerFits, FitsOn, RowsFit, WriteFits};
 ghost use Rattle.ct_core.specs.Range.{IsNarrow, DecisionIsNarrow};
 
 use crate::reads::{NoVersions, catalogue, catalogued, env, selected};
 use ct_bind::bind;
-use ct_built::is_built;
-use ct_machine::{Command, Decision};
+use ct_machine::is_built;
+use ct_machine::Decision;
+use ct_types::Command;
 use ct_model::{Db, Table, find_table};
 use ct_types::{
     Act, Bound, BoundSelect, BoundWrite, Copies, Key, List, Memory, Refusal, Reply, Stmt,

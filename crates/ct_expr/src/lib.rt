@@ -7,8 +7,6 @@ mod functions;
 mod laws;
 mod logic;
 mod numbers;
-#[cfg(test)]
-mod tests;
 
 pub use env::{Env, Versions};
 pub use evaluator::{eval, holds, truth};

@@ -1,8 +1,8 @@
 -- How plays go on, and that whole plays of the same statements are one.
 use Rattle.std.proofs.Common.{◌≡◌, Bool, true, false, ◌||◌, cond, List, [], ◌∷◌, ◌++◌, inl, inr, map, refl, sym, ap, subst, ◌∙◌}
 use Rattle.ct_types.specs.declared.reply.Reply.{Reply}
-use Rattle.ct_machine.specs.declared.command.Command.{Command}
-use Rattle.ct_machine.specs.declared.command.Journaled.{Journaled}
+use Rattle.ct_types.specs.declared.command.Command.{Command}
+use Rattle.ct_types.specs.declared.command.Journaled.{Journaled}
 use Rattle.ct_machine.specs.Machine.{Machine}
 use Rattle.ct_machine.specs.Play.{IsPlay, IsWhole, Follows, Call, after, call_of, end_of, is_memory}
 use Rattle.ct_machine.specs.Step.{step}

@@ -17,11 +17,11 @@ use Rattle.ct_model.specs.declared.db.Table.{Table}
 use Rattle.ct_model.specs.Tables.{catalogued, table_of}
 use Rattle.ct_types.specs.Answers.{Answer}
 use Rattle.ct_bind.specs.Binding.{binding}
-use Rattle.ct_built.specs.Built.{is_built}
+use Rattle.ct_machine.specs.Built.{is_built}
 use Rattle.ct_write.specs.Duplicates.{duplicate}
 use Rattle.ct_write.specs.Writes.{writes_of}
-use Rattle.ct_machine.specs.declared.command.Command.{Command}
-use Rattle.ct_machine.specs.declared.command.Command.TheVariants.{Sql, Wrong}
+use Rattle.ct_types.specs.declared.command.Command.{Command}
+use Rattle.ct_types.specs.declared.command.Command.TheVariants.{Sql, Wrong}
 use Rattle.ct_machine.specs.declared.decision.Decision.{Decision}
 use Rattle.ct_machine.specs.declared.decision.Decision.TheVariants.{Refuses, Answers, Commits}
 use Rattle.ct_machine.specs.Reads.{catalogue, world_of, selected}
@@ -91,3 +91,4 @@ once_bound db (Ok statement) = decide_bound db statement
 unfoldable pub decide : Db → Command → Decision
 decide db (Wrong refusal) = Refuses refusal
 decide db (Sql statement) = if is_built statement then once_bound db (binding (catalogue db) db.keep [] statement) else Refuses NotBuilt
+decide db command = Refuses NotBuilt

@@ -3,7 +3,7 @@ use Rattle.std.specs.Prelude.{◌≡◌, List, [], ◌∷◌, ◌++◌, map}
 use Rattle.ct_types.specs.declared.entry.Entry.{Entry}
 use Rattle.ct_model.specs.declared.db.Db.{Db}
 use Rattle.ct_model.specs.Applies.{Applies}
-use Rattle.ct_machine.specs.declared.command.Journaled.{Journaled}
+use Rattle.ct_types.specs.declared.command.Journaled.{Journaled}
 use Rattle.ct_machine.specs.Machine.{Machine}
 use Rattle.ct_machine.specs.Play.{Follows, after, IsPlay, IsWhole, call_of, end_of}
 use Rattle.ct_machine.specs.Step.{act_draws}

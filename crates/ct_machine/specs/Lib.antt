@@ -5,3 +5,5 @@ pub mod Play
 pub mod Reads
 pub mod Step
 pub mod Transcript
+pub mod Built
+pub mod Fits

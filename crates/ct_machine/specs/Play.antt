@@ -4,8 +4,8 @@ use Rattle.std.specs.List.{list_any}
 use Rattle.ct_types.specs.declared.refusal.Refusal.TheVariants.{Memory}
 use Rattle.ct_types.specs.declared.reply.Reply.{Reply}
 use Rattle.ct_types.specs.declared.reply.Reply.TheVariants.{Refused}
-use Rattle.ct_machine.specs.declared.command.Command.{Command}
-use Rattle.ct_machine.specs.declared.command.Journaled.{Journaled}
+use Rattle.ct_types.specs.declared.command.Command.{Command}
+use Rattle.ct_types.specs.declared.command.Journaled.{Journaled}
 use Rattle.ct_machine.specs.Machine.{Machine}
 use Rattle.ct_machine.specs.Step.{step}
 

@@ -10,7 +10,7 @@ use Rattle.ct_types.specs.declared.reply.Reply.TheVariants.{Refused}
 use Rattle.ct_model.specs.declared.db.Db.{Db}
 use Rattle.ct_model.specs.declared.db.Table.{Table}
 use Rattle.ct_model.specs.Tables.{table_of}
-use Rattle.ct_machine.specs.declared.command.Command.{Command}
+use Rattle.ct_types.specs.declared.command.Command.{Command}
 use Rattle.ct_machine.specs.declared.decision.Decision.{Decision}
 use Rattle.ct_machine.specs.declared.decision.Decision.TheVariants.{Refuses, Answers, Commits}
 use Rattle.ct_machine.specs.Machine.{Machine, db_of}

@@ -15,7 +15,7 @@ use Rattle.ct_types.specs.declared.verdict.Verdict.TheVariants.{Initialised, Syn
 use Rattle.ct_types.specs.declared.reply.Grid.{Grid}
 use Rattle.ct_types.specs.declared.reply.Reply.{Reply}
 use Rattle.ct_types.specs.declared.reply.Reply.TheVariants as reply
-use Rattle.ct_machine.specs.declared.command.Journaled.{Journaled}
+use Rattle.ct_types.specs.declared.command.Journaled.{Journaled}
 use Rattle.ct_machine.specs.Reads.{op_name}
 
 -- ---- values

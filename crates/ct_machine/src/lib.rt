@@ -2,12 +2,13 @@
 //! few tests of them that code makes and the laws that stand above them.
 #![tactic(auto)]
 
+mod built;
 mod checks;
-mod command;
 mod decision;
 mod laws;
+mod subqueries;
 
+pub use built::is_built;
 pub use checks::{draws_version, has_number, wants_memory};
-pub use command::{Command, Journaled};
 pub use decision::Decision;
 pub use laws::{entries_draw, one_whole_play, plays_go_on};

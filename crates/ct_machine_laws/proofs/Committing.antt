@@ -17,11 +17,11 @@ use Rattle.ct_model.specs.Applies.{ActApplies}
 use Rattle.ct_model.specs.Tables.{catalogued}
 use Rattle.ct_bind.specs.Binding.{binding}
 use Rattle.ct_bind.specs.Queries.{select}
-use Rattle.ct_built.specs.Built.{is_built}
-use Rattle.ct_schema_laws.proofs.Creating.{Creates, create_kept}
-use Rattle.ct_schema_laws.proofs.Settings.{Sets, settings_apply_by}
-use Rattle.ct_schema_laws.proofs.Switches.{SwitchesOn, enable_kept, new_schema}
-use Rattle.ct_machine.specs.declared.command.Command.TheVariants.{Sql, Wrong}
+use Rattle.ct_machine.specs.Built.{is_built}
+use Rattle.ct_machine_laws.proofs.Creating.{Creates, create_kept}
+use Rattle.ct_machine_laws.proofs.Settings.{Sets, settings_apply_by}
+use Rattle.ct_machine_laws.proofs.Switches.{SwitchesOn, enable_kept, new_schema}
+use Rattle.ct_types.specs.declared.command.Command.TheVariants.{Sql, Wrong}
 use Rattle.ct_machine.specs.declared.decision.Decision.{Decision}
 use Rattle.ct_machine.specs.declared.decision.Decision.TheVariants.{Refuses, Commits}
 use Rattle.ct_machine.specs.Decide.{answered, decide, decide_bound, once_bound}

@@ -1,3 +1,16 @@
 pub mod Soundness
 pub mod Committing
 pub mod Writing
+pub mod Columns
+pub mod Creating
+pub mod Keys
+pub mod Sameness
+pub mod Settings
+pub mod Switches
+pub mod Definitions
+pub mod Lexemes
+pub mod Names
+pub mod Statements
+pub mod Yields
+pub mod Accepted
+pub mod Keeping

@@ -11,9 +11,9 @@ use Rattle.ct_model.specs.Applies.{ApplyInTurn, XdesApplies}
 use Rattle.ct_model.specs.Apply.{apply, no_db, replay}
 use Rattle.ct_model.proofs.InTurn.{ApplyInTurn-push, no_db_valid, replay-push, replay-valid}
 use Rattle.ct_model.proofs.Members.{all_weaken}
-use Rattle.ct_schema_laws.proofs.Sameness.{both}
-use Rattle.ct_machine.specs.declared.command.Command.{Command}
-use Rattle.ct_machine.specs.declared.command.Journaled.{Journaled}
+use Rattle.ct_machine_laws.proofs.Sameness.{both}
+use Rattle.ct_types.specs.declared.command.Command.{Command}
+use Rattle.ct_types.specs.declared.command.Journaled.{Journaled}
 use Rattle.ct_machine.specs.declared.decision.Decision.{Decision}
 use Rattle.ct_machine.specs.declared.decision.Decision.TheVariants.{Refuses, Answers, Commits}
 use Rattle.ct_machine.specs.Decide.{decide}

@@ -20,18 +20,19 @@ use Rattle.ct_model.specs.Apply.{no_db}
 use Rattle.ct_model.specs.Tables.{table_of}
 use Rattle.ct_model.specs.Valid.{IsValid}
 use Rattle.ct_bind.specs.Binding.{binding}
-use Rattle.ct_built.specs.Built.{is_built}
+use Rattle.ct_machine.specs.Built.{is_built}
 use Rattle.ct_write.specs.Laws.{IsOfTable, IsOfKinds}
-use Rattle.ct_schema_laws.specs.Laws.{AreNames}
-use Rattle.ct_machine.specs.declared.command.Command.{Command}
-use Rattle.ct_machine.specs.declared.command.Command.TheVariants.{Sql, Wrong}
-use Rattle.ct_machine.specs.declared.command.Journaled.{Journaled}
+use Rattle.ct_machine_laws.specs.Schemas.{AreNames}
+use Rattle.ct_types.specs.declared.command.Command.{Command}
+use Rattle.ct_types.specs.declared.command.Command.TheVariants.{Sql, Wrong}
+use Rattle.ct_types.specs.declared.command.Journaled.{Journaled}
 use Rattle.ct_machine.specs.declared.decision.Decision.TheVariants.{Commits}
 use Rattle.ct_machine.specs.Machine.{Machine, db_of, opening}
 use Rattle.ct_machine.specs.Play.{after, end_of}
 use Rattle.ct_machine.specs.Reads.{catalogue, world_of}
 use Rattle.ct_machine.specs.Step.{decision_of, entry_of}
-use Rattle.ct_machine_laws.specs.Sound.{IsSound, CommitsWell, EachCommitsWell, FitsOn}
+use Rattle.ct_machine_laws.specs.Sound.{IsSound, CommitsWell, EachCommitsWell}
+use Rattle.ct_machine.specs.Fits.{FitsOn}
 
 -- ---- sound machines
 

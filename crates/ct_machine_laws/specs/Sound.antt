@@ -14,12 +14,12 @@ use Rattle.ct_model.specs.Applies.{ActApplies, ApplyInTurn}
 use Rattle.ct_model.specs.Tables.{catalogued, table_of}
 use Rattle.ct_model.specs.Valid.{IsValid}
 use Rattle.ct_bind.specs.Binding.{binding}
-use Rattle.ct_built.specs.Built.{is_built}
+use Rattle.ct_machine.specs.Built.{is_built}
 use Rattle.ct_write.specs.Fitting.{IsFit}
 use Rattle.ct_write.specs.Writes.{writes_of}
-use Rattle.ct_machine.specs.declared.command.Command.{Command}
-use Rattle.ct_machine.specs.declared.command.Command.TheVariants.{Sql, Wrong}
-use Rattle.ct_machine.specs.declared.command.Journaled.{Journaled}
+use Rattle.ct_types.specs.declared.command.Command.{Command}
+use Rattle.ct_types.specs.declared.command.Command.TheVariants.{Sql, Wrong}
+use Rattle.ct_types.specs.declared.command.Journaled.{Journaled}
 use Rattle.ct_machine.specs.declared.decision.Decision.TheVariants.{Commits}
 use Rattle.ct_machine.specs.Machine.{Machine, db_of}
 use Rattle.ct_machine.specs.Play.{after}
@@ -52,23 +52,3 @@ CommitsWell m what = (act : Act) (reply : Reply) → decision_of m what ≡ Comm
 abbrev pub EachCommitsWell : Machine → List Journaled → Type 0
 EachCommitsWell m [] = Unit {0}
 EachCommitsWell m (one ∷ more) = CommitsWell m one.what × EachCommitsWell (after m one.what one.reply) more
-
--- ---- rows that fit
-
--- the rows that a write comes to on a table fit the table's columns
-abbrev pub FitsOn : Db → BoundWrite → Table → Type 0
-FitsOn db write table = (writes : List Write) → writes_of (world_of db) (catalogued table) write table.rows ≡ Ok writes
-    → AllByRecursion (λ one. IsFit table.schema.columns one.row) writes
-
--- they fit its own table, where that is there
-abbrev pub WriteFits : Db → BoundWrite → Type 0
-WriteFits db write = (table : Table) → table_of db.tables write.table ≡ Some table → FitsOn db write table
-
--- what binding answers is a write whose rows fit, or no write
-abbrev pub AnswerFits : Db → Answer Bound → Type 0
-AnswerFits db answer = (write : BoundWrite) → answer ≡ Ok (Writes write) → WriteFits db write
-
--- the rows that a statement writes fit their table, where its form is built; a text that is no sentence writes none
-abbrev pub RowsFit : Db → Command → Type 0
-RowsFit db (Sql statement) = is_built statement ≡ true → AnswerFits db (binding (catalogue db) db.keep [] statement)
-RowsFit db (Wrong refusal) = Unit {0}

@@ -1,5 +1,47 @@
+ghost use Rattle.ct_machine_laws.specs.Schemas.{CreatesDefinable};
+ghost use Rattle.ct_machine_laws.specs.Acts.{CreatesApply, EnablesApply, DisablesApply, SettingsApply};
+ghost use Rattle.ct_machine_laws.specs.Grammar.{ParsedAreSpelled};
+ghost use Rattle.ct_machine_laws.specs.Writes.{WritesSuitTheirTable};
 ghost use Rattle.ct_machine_laws.specs.Laws.{OpensSound, SoundIsValid, EntriesApply, StaysSound, PlaysKeepValid};
 ghost use Rattle.ct_machine_laws.specs.Laws.{SettingsCommitWell, CreatesCommitWell, EnablesCommitWell, WrongCommitsWell, SelectsCommitWell, UnbuiltCommitsWell, WritesCommitWell};
+ghost use Rattle.ct_machine_laws.specs.Keeping.{KeepsSound};
+
+/// A table that CREATE TABLE makes is one that may be defined, has the next id, and no table of the catalogue has its name.
+pub fn creates_definable()
+    ensures { CreatesDefinable }
+{}
+
+/// What CREATE TABLE comes to in the catalogue of a database applies to it.
+pub fn creates_apply()
+    ensures { CreatesApply }
+{}
+
+/// What ENABLE comes to in the catalogue of a database applies to it.
+pub fn enables_apply()
+    ensures { EnablesApply }
+{}
+
+/// What DISABLE comes to in the catalogue of a database applies to it.
+pub fn disables_apply()
+    ensures { DisablesApply }
+{}
+
+/// What ALTER DATABASE comes to in the catalogue and the settings of a database applies to it.
+pub fn settings_apply()
+    ensures { SettingsApply }
+{}
+
+/// Of a tree that was read from a text, CREATE TABLE gives its table and its columns names of 1 to 128 characters from space to `~`
+/// without `]`, and UPDATE sets one column at least.
+pub fn parsed_are_spelled()
+    ensures { ParsedAreSpelled }
+{}
+
+/// In the catalogue of a valid database, the SET list of a bound write names columns of its table, one at least and none of
+/// the key, and each value that is put into a column is of the column's kind.
+pub fn writes_suit_their_table()
+    ensures { WritesSuitTheirTable }
+{}
 
 /// The opening of a valid database is sound.
 pub fn opens_sound()
@@ -60,4 +102,10 @@ pub fn unbuilt_commits_well()
 /// that are written fit.
 pub fn writes_commit_well()
     ensures { WritesCommitWell }
+{}
+
+/// A statement that the grammar gives leaves a sound machine sound, whatever it is answered, where the rows that it writes
+/// fit.
+pub fn keeps_sound()
+    ensures { KeepsSound }
 {}

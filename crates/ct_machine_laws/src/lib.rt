@@ -1,10 +1,7 @@
-//! The laws of sound machines: the acts that statements commit apply, and plays keep the database valid.
+//! The laws of sound machines: what the grammar and binding promise of a statement, that the acts which statements commit apply, and that
+//! plays keep the database valid.
 #![tactic(auto)]
 
 mod laws;
 
-pub use laws::{
-    creates_commit_well, enables_commit_well, entries_apply, opens_sound, plays_keep_valid,
-    selects_commit_well, settings_commit_well, sound_is_valid, stays_sound, unbuilt_commits_well,
-    writes_commit_well, wrong_commits_well,
-};
+pub use laws::{creates_apply, creates_commit_well, creates_definable, disables_apply, enables_apply, enables_commit_well, entries_apply, keeps_sound, opens_sound, parsed_are_spelled, plays_keep_valid, selects_commit_well, settings_apply, settings_commit_well, sound_is_valid, stays_sound, unbuilt_commits_well, writes_commit_well, writes_suit_their_table, wrong_commits_well};

@@ -4,8 +4,6 @@
 mod laws;
 mod mask;
 mod reading;
-#[cfg(test)]
-mod tests;
 
 pub use laws::reads_what_it_has;
 pub use mask::Mask;

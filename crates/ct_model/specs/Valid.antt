@@ -1,4 +1,4 @@
--- A valid database: what a checkpoint may hold, and what every run keeps. This project's own; the least retention is that of
+-- A valid database: what a checkpoint may hold, and what entries that apply keep. This project's own; the least retention is that of
 -- https://learn.microsoft.com/sql/t-sql/statements/alter-database-transact-sql-set-options.
 use Rattle.std.specs.Prelude.{◌≡◌, ◌≢◌, ℕ, ◌+◌, ◌*◌, ◌^◌, ◌≤◌, ◌<◌, true, List, [], ◌∷◌, length, map, Option, None, Some, IsSome, MatchBool}
 use Rattle.std.specs.List.{AllByRecursion}

@@ -13,8 +13,6 @@ mod names;
 mod rows;
 mod schemas;
 mod tables;
-#[cfg(test)]
-mod tests;
 mod trim;
 mod writes;
 

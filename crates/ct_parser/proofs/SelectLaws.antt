@@ -23,17 +23,17 @@ use Rattle.ct_grammar.proofs.Choices.{shape_maybe, some_left, some_right, some_m
 use Rattle.ct_grammar.proofs.Repetitions.{some_many, law_repeat}
 use Rattle.ct_grammar.proofs.Lookahead.{reads_ahead, law_ahead, prefix_reaches_end}
 use Rattle.ct_grammar.proofs.LeadingTokens.{two_matched, three_matched, traverses_two, traverses_three, first_reached, second_reached}
-use Rattle.ct_expressions.specs.declared.level.Entry.{Entry}
-use Rattle.ct_expressions.specs.declared.level.Entry.TheVariants.{Whole}
-use Rattle.ct_expressions.specs.Grammar.{column_of, with_none, with_one, with_two, with_three}
-use Rattle.ct_expressions.specs.Grammar as g
+use Rattle.ct_parse_expr.specs.declared.level.Entry.{Entry}
+use Rattle.ct_parse_expr.specs.declared.level.Entry.TheVariants.{Whole}
+use Rattle.ct_parse_expr.specs.Grammar.{column_of, with_none, with_one, with_two, with_three}
+use Rattle.ct_parse_expr.specs.Grammar as g
 use Rattle.ct_parser.specs.Statements as s
 use Rattle.ct_parser.specs.Statements.{directions}
-use Rattle.ct_expressions.specs.ReadExpr as p
+use Rattle.ct_parse_expr.specs.ReadExpr as p
 use Rattle.ct_parser.specs.ReadStmt as q
-use Rattle.ct_expressions.proofs.NameLaws.{second_shape, alias_shape, some_one, some_name, some_variable, some_table_name, some_alias, law_one, law_kind, law_name, law_variable, law_table_name, law_alias, law_name_list}
-use Rattle.ct_expressions.proofs.Expressions.{negation_starts, disjunction_goes, column_alone, law_expr, some_expr, law_tuple, some_tuple, law_version_tail, law_version, some_version}
-use Rattle.ct_ddl.proofs.DdlLaws.{law_alter, law_create, law_truncate, some_truncate, law_type_name, some_type_name}
+use Rattle.ct_parse_expr.proofs.NameLaws.{second_shape, alias_shape, some_one, some_name, some_variable, some_table_name, some_alias, law_one, law_kind, law_name, law_variable, law_table_name, law_alias, law_name_list}
+use Rattle.ct_parse_expr.proofs.Expressions.{negation_starts, disjunction_goes, column_alone, law_expr, some_expr, law_tuple, some_tuple, law_version_tail, law_version, some_version}
+use Rattle.ct_parse_definition.proofs.DdlLaws.{law_alter, law_create, law_truncate, some_truncate, law_type_name, some_type_name}
 use Rattle.ct_parser.proofs.StatementLaws.{law_begin, law_commit, law_rollback, some_table_source, law_table_source, law_join_kind}
 
 -- an expression of a statement, by the levels of the statement

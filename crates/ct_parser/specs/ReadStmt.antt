@@ -30,12 +30,12 @@ use Rattle.ct_grammar.specs.declared.fault.Fault.TheVariants.{Memory, Syntax, To
 use Rattle.ct_grammar.specs.Kinds.{names}
 use Rattle.ct_grammar.specs.Lexemes.{Lexeme}
 use Rattle.ct_grammar.specs.Reading.{Outcome, Reader, both, making, pick, ahead, option, repeat, need, kind, name, variable}
-use Rattle.ct_expressions.specs.declared.level.Entry.{Entry}
-use Rattle.ct_expressions.specs.declared.level.Entry.TheVariants.{Whole}
+use Rattle.ct_parse_expr.specs.declared.level.Entry.{Entry}
+use Rattle.ct_parse_expr.specs.declared.level.Entry.TheVariants.{Whole}
 use Rattle.ct_parser.specs.declared.parts.ChangeTable.{ChangeTable}
 use Rattle.ct_parser.specs.declared.parts.ChangeTable.TheVariants as table_as
-use Rattle.ct_ddl.specs.ReadDdl.{alter, create, truncate, type_name}
-use Rattle.ct_expressions.specs.ReadExpr.{table_name, alias, name_list, tuple, version_tail, version, expr}
+use Rattle.ct_parse_definition.specs.ReadDdl.{alter, create, truncate, type_name}
+use Rattle.ct_parse_expr.specs.ReadExpr.{table_name, alias, name_list, tuple, version_tail, version, expr}
 use Rattle.ct_parser.specs.Exact.{place}
 use Rattle.ct_parser.specs.Statements.{directions, transactions, list_in, source_of, descends}
 

@@ -25,12 +25,12 @@ use Rattle.ct_grammar.specs.declared.kind.Kind.TheVariants as k
 use Rattle.ct_grammar.specs.Kinds.{Set}
 use Rattle.ct_grammar.specs.Lexemes.{Lexeme}
 use Rattle.ct_grammar.specs.Rules.{Rule, ◌and◌, ◌or◌, ◌of◌, maybe, many, one, kind, name, variable}
-use Rattle.ct_expressions.specs.declared.level.Entry.{Entry}
-use Rattle.ct_expressions.specs.declared.level.Entry.TheVariants.{Whole}
+use Rattle.ct_parse_expr.specs.declared.level.Entry.{Entry}
+use Rattle.ct_parse_expr.specs.declared.level.Entry.TheVariants.{Whole}
 use Rattle.ct_parser.specs.declared.parts.ChangeTable.{ChangeTable}
 use Rattle.ct_parser.specs.declared.parts.ChangeTable.TheVariants as table_as
-use Rattle.ct_ddl.specs.Grammar.{alter, create, truncate, type_name}
-use Rattle.ct_expressions.specs.Grammar.{table_name, alias, name_list, tuple, version_tail, version, expr}
+use Rattle.ct_parse_definition.specs.Grammar.{alter, create, truncate, type_name}
+use Rattle.ct_parse_expr.specs.Grammar.{table_name, alias, name_list, tuple, version_tail, version, expr}
 
 -- ---- sets of kinds
 

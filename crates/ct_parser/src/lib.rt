@@ -14,5 +14,3 @@ mod writes;
 pub use law::{answers_once, reads_exactly};
 pub use statement::parse;
 
-#[cfg(test)]
-mod tests;

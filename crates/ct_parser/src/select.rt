@@ -3,13 +3,13 @@
 ghost use Rattle.std.specs.Prelude.{[], ◌∷◌};
 ghost use Rattle.ct_grammar.specs.Reading.{Reads, kind, option};
 ghost use Rattle.ct_grammar.specs.declared.kind.Kind.TheVariants as k;
-ghost use Rattle.ct_expressions.specs.ReadExpr as exprs;
+ghost use Rattle.ct_parse_expr.specs.ReadExpr as exprs;
 ghost use Rattle.ct_parser.specs.ReadStmt as spec;
 ghost use Rattle.ct_parser.specs.Statements.{directions};
 
 use crate::levels::Parser;
 use crate::trees::{descends, list_in};
-use ct_expressions::{value, with_first};
+use ct_parse_expr::{value, with_first};
 use ct_grammar::{Cursor, Fault, Kind, NAMES, read_many};
 use ct_types::{Expr, List, OrderItem, Select, SelectItem, Stmt};
 

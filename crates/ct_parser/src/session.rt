@@ -3,13 +3,13 @@
 ghost use Rattle.std.specs.Prelude.{[], ◌∷◌};
 ghost use Rattle.ct_grammar.specs.Reading.{Reads, kind, option};
 ghost use Rattle.ct_grammar.specs.declared.kind.Kind.TheVariants as k;
-ghost use Rattle.ct_expressions.specs.ReadExpr as exprs;
+ghost use Rattle.ct_parse_expr.specs.ReadExpr as exprs;
 ghost use Rattle.ct_parser.specs.ReadStmt as spec;
 ghost use Rattle.ct_parser.specs.Statements.{transactions};
 
 use crate::levels::Parser;
-use ct_ddl::type_name;
-use ct_expressions::value;
+use ct_parse_definition::type_name;
+use ct_parse_expr::value;
 use ct_grammar::{Cursor, Fault, Kind};
 use ct_types::{Expr, Isolation, Stmt};
 

@@ -4,13 +4,13 @@ ghost use Rattle.std.specs.Prelude.{[], ◌∷◌};
 ghost use Rattle.ct_grammar.specs.Kinds.{names};
 ghost use Rattle.ct_grammar.specs.Reading.{Reads, option};
 ghost use Rattle.ct_grammar.specs.declared.kind.Kind.TheVariants as k;
-ghost use Rattle.ct_expressions.specs.ReadExpr as exprs;
+ghost use Rattle.ct_parse_expr.specs.ReadExpr as exprs;
 ghost use Rattle.ct_parser.specs.ReadStmt as spec;
 
 use crate::levels::Parser;
 use crate::parts::ChangeTable;
 use crate::trees::source_of;
-use ct_expressions::{alias, table_name, value, version, version_tail};
+use ct_parse_expr::{alias, table_name, value, version, version_tail};
 use ct_grammar::{Cursor, Fault, Kind};
 use ct_types::{FromClause, JoinClause, JoinKind, Source, TableSource, Text, VersionSource};
 

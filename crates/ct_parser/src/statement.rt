@@ -5,11 +5,11 @@ ghost use Rattle.ct_grammar.specs.Lexemes.{lexemes};
 ghost use Rattle.ct_lexer.specs.Spans.{AllFit};
 ghost use Rattle.ct_parser.specs.Exact.{Parsed, most, place};
 ghost use Rattle.ct_grammar.specs.Reading.{Gives, Reads};
-ghost use Rattle.ct_expressions.specs.ReadExpr as exprs;
+ghost use Rattle.ct_parse_expr.specs.ReadExpr as exprs;
 ghost use Rattle.ct_parser.specs.ReadStmt as spec;
 
 use crate::levels::Parser;
-use ct_ddl::{alter, create, truncate};
+use ct_parse_definition::{alter, create, truncate};
 use ct_grammar::{Cursor, Fault, Kind};
 use ct_lexer::Token;
 use ct_types::{Refusal, Stmt};

@@ -3,11 +3,11 @@
 ghost use Rattle.std.specs.Prelude.{[], ◌∷◌};
 ghost use Rattle.ct_grammar.specs.Reading.{Reads, option};
 ghost use Rattle.ct_grammar.specs.declared.kind.Kind.TheVariants as k;
-ghost use Rattle.ct_expressions.specs.ReadExpr as exprs;
+ghost use Rattle.ct_parse_expr.specs.ReadExpr as exprs;
 ghost use Rattle.ct_parser.specs.ReadStmt as spec;
 
 use crate::levels::Parser;
-use ct_expressions::{name_list, table_name, tuple, value, with_first};
+use ct_parse_expr::{name_list, table_name, tuple, value, with_first};
 use ct_grammar::{Cursor, Fault, Kind, read_many};
 use ct_types::{Expr, List, SetColumn, Stmt, TableSource, Text, WriteStmt};
 use sqlite_items::Items;

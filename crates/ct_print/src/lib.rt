@@ -5,8 +5,6 @@ mod journal;
 mod laws;
 mod refusal;
 mod reply;
-#[cfg(test)]
-mod tests;
 mod value;
 
 pub use journal::{print_block, print_run};

@@ -8,8 +8,6 @@ mod lists;
 mod query;
 mod shown;
 mod sorting;
-#[cfg(test)]
-mod tests;
 
 pub use laws::{
     inner_is_left_paired, one_order, orders_stably, right_mirrors_left, same_pairs, true_keeps_all,

@@ -2,7 +2,7 @@
 use Rattle.std.proofs.Common.{◌≡◌, List, [], ◌∷◌, ◌++◌, length, map, refl, sym, ap, ◌∙◌, arith}
 use Rattle.std.proofs.lemmas.List.{map-append}
 use Rattle.ct_script.specs.declared.script.Phase.{Phase}
-use Rattle.ct_machine.specs.declared.command.Journaled.{Journaled}
+use Rattle.ct_types.specs.declared.command.Journaled.{Journaled}
 use Rattle.ct_machine.specs.Play.{call_of}
 use Rattle.ct_run.specs.Schedule.{Numbered, numbered_in, IsOf, IsInOrder, AreInOrder}
 use Rattle.ct_run.specs.Top.{all_of}

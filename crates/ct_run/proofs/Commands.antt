@@ -7,10 +7,10 @@ use Rattle.ct_lexer.specs.Cutting.{IsStuck}
 use Rattle.ct_lexer.proofs.Cutting.{one_tokens, cut_or_stuck, one_place}
 use Rattle.ct_parser.specs.Exact.{Parsed}
 use Rattle.ct_parser.proofs.OneAnswer.{answers_once}
-use Rattle.ct_machine.specs.declared.command.Command.{Command}
-use Rattle.ct_machine.specs.declared.command.Command.TheVariants.{Sql, Wrong}
-use Rattle.ct_sound.specs.Laws.{IsSpelledCommand}
-use Rattle.ct_spelled.proofs.Statements.{parsed_are_spelled}
+use Rattle.ct_types.specs.declared.command.Command.{Command}
+use Rattle.ct_types.specs.declared.command.Command.TheVariants.{Sql, Wrong}
+use Rattle.ct_machine_laws.specs.Keeping.{IsSpelledCommand}
+use Rattle.ct_machine_laws.proofs.Statements.{parsed_are_spelled}
 use Rattle.ct_run.specs.Schedule.{IsAnswered, Means}
 
 -- the parser's refusal, where it is not want of memory

@@ -8,16 +8,17 @@ use Rattle.std.proofs.lemmas.List.Sums.{sum_by_push}
 use Rattle.ct_model.specs.Apply.{no_db}
 use Rattle.ct_model.proofs.InTurn.{no_db_valid}
 use Rattle.ct_core.specs.Stands.{CoreState, Stands}
-use Rattle.ct_machine.specs.declared.command.Journaled.{Journaled}
+use Rattle.ct_types.specs.declared.command.Journaled.{Journaled}
 use Rattle.ct_machine.specs.Machine.{Machine, db_of, opening}
 use Rattle.ct_machine.specs.Play.{Follows, IsPlay, end_of, is_memory}
 use Rattle.ct_machine.specs.Play as play
-use Rattle.ct_machine_laws.specs.Sound.{IsSound, RowsFit, StaySound}
+use Rattle.ct_machine_laws.specs.Sound.{IsSound, StaySound}
+use Rattle.ct_machine.specs.Fits.{RowsFit}
 use Rattle.ct_machine_laws.proofs.Soundness.{opens_sound}
 use Rattle.ct_script.specs.declared.script.Lane.{Lane}
 use Rattle.ct_script.specs.declared.script.Phase.{Phase}
 use Rattle.ct_script.specs.Size.{lane_size, phase_size}
-use Rattle.ct_sound.proofs.Keeping.{keeps_sound}
+use Rattle.ct_machine_laws.proofs.Keeping.{keeps_sound}
 use Rattle.ct_run.specs.Schedule.{Numbered, numbered_from, numbered_in_lane, numbered_in, IsOf, IsInOrder, AreInOrder}
 use Rattle.ct_run.specs.Steps.{Goes}
 use Rattle.ct_run.specs.Top.{all_of}

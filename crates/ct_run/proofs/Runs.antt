@@ -4,7 +4,7 @@ use Rattle.std.specs.Io.KnownBytes.{Appends, Consumes, IsAtEnd}
 use Rattle.std.specs.List.{list_any}
 use Rattle.std.proofs.lemmas.List.Folds.{list_any-append}
 use Rattle.ct_faults.specs.Bytes.{most_bytes, TakesTooMany}
-use Rattle.ct_machine.specs.declared.command.Journaled.{Journaled}
+use Rattle.ct_types.specs.declared.command.Journaled.{Journaled}
 use Rattle.ct_model.specs.Apply.{no_db}
 use Rattle.ct_machine.specs.Machine.{opening}
 use Rattle.ct_machine.specs.Play.{IsWhole}

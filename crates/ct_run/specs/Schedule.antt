@@ -8,9 +8,9 @@ use Rattle.ct_lexer.specs.Cutting.{IsCut, IsStuck}
 use Rattle.ct_parser.specs.Exact.{Parsed}
 use Rattle.ct_script.specs.declared.script.Lane.{Lane}
 use Rattle.ct_script.specs.declared.script.Phase.{Phase}
-use Rattle.ct_machine.specs.declared.command.Command.{Command}
-use Rattle.ct_machine.specs.declared.command.Command.TheVariants.{Sql, Wrong}
-use Rattle.ct_machine.specs.declared.command.Journaled.{Journaled}
+use Rattle.ct_types.specs.declared.command.Command.{Command}
+use Rattle.ct_types.specs.declared.command.Command.TheVariants.{Sql, Wrong}
+use Rattle.ct_types.specs.declared.command.Journaled.{Journaled}
 
 -- ---- the command of a text
 

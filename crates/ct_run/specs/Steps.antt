@@ -1,7 +1,7 @@
 -- How a play goes on through some statements, and what comes of a script, as the code does it. No promise speaks of them.
 use Rattle.std.specs.Prelude.{◌≡◌, List, ◌++◌, ◌⊎◌}
 use Rattle.std.specs.Io.KnownBytes.{Keeps}
-use Rattle.ct_machine.specs.declared.command.Journaled.{Journaled}
+use Rattle.ct_types.specs.declared.command.Journaled.{Journaled}
 use Rattle.ct_machine.specs.Machine.{Machine}
 use Rattle.ct_machine.specs.Play.{IsPlay, end_of}
 use Rattle.ct_machine_laws.specs.Sound.{IsSound, StaySound}

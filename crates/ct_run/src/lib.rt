@@ -6,8 +6,6 @@ mod gate;
 mod laws;
 mod play;
 mod status;
-#[cfg(test)]
-mod tests;
 mod top;
 
 pub use gate::{Gate, NoGate};

@@ -11,7 +11,7 @@ ghost use Rattle.ct_run.specs.Top.{IsRunOf};
 use crate::Gate;
 use crate::command::command_of;
 use ct_core::Core;
-use ct_machine::Journaled;
+use ct_types::Journaled;
 use ct_script::{Lane, Phase, Script};
 use ct_types::{List, Memory};
 use std::alloc::Global;

@@ -10,7 +10,8 @@ ghost use Rattle.ct_run.specs.Top.{code_of, DiskChange, IsRun, Says, Writes, Ans
 use crate::play::play_script;
 use crate::{Gate, Status};
 use ct_faults::{Disk, ReadError, Sink, Source, read_all, write_all};
-use ct_machine::{Journaled, wants_memory};
+use ct_machine::wants_memory;
+use ct_types::Journaled;
 use ct_print::print_run;
 use ct_script::{Script, ScriptError, read_script};
 use ct_types::{List, Memory};

@@ -13,8 +13,6 @@ mod reading;
 mod said;
 mod schedule;
 mod script;
-#[cfg(test)]
-mod tests;
 
 pub use error::ScriptError;
 pub use laws::{

@@ -3,8 +3,6 @@
 
 mod parts;
 mod tables;
-#[cfg(test)]
-mod tests;
 
 pub use parts::spelled_name;
 pub use tables::table_named;

@@ -56,7 +56,7 @@ IsTooLong (kind.NVarChar most) (Text t) = most < code_points t
 IsTooLong (kind.VarBinary most) (Bytes b) = most < length b
 IsTooLong type value = ⊥
 
--- none of these: NULL where it may stand, a number within the type, a text or bytes that are not too long
+-- of the kind of its column: a number of the type's width, a text or bytes that are not too long; of a value of another kind, and of NULL, nothing is asked
 abbrev pub IsWithin : ColType → Value → Type 0
 IsWithin kind.Int (Int n) = IsInt n
 IsWithin kind.BigInt (Int n) = IsBigInt n

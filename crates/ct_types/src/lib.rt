@@ -5,6 +5,7 @@ mod bin;
 mod bound;
 mod catalogue;
 mod column_fit;
+mod command;
 mod copies;
 mod entry;
 mod expr;
@@ -20,6 +21,7 @@ mod text;
 mod tracked;
 mod value;
 mod verdict;
+mod view;
 
 pub use bin::Bin;
 pub use bound::{
@@ -28,6 +30,7 @@ pub use bound::{
 };
 pub use catalogue::{Catalogued, Variable, Variables};
 pub use column_fit::{Misfit, fits, is_of_kind};
+pub use command::{Command, Journaled};
 pub use copies::Copies;
 pub use entry::{Act, Change, Entry, Keep, Kept, Min, Op, Write};
 pub use expr::{ColumnName, Comparison, Expr, ObjectName, RowVersion, Scalar, Term};
@@ -47,3 +50,4 @@ pub use text::Text;
 pub use tracked::{NetRow, Tracked, VersionRow};
 pub use value::{Key, Row, Value};
 pub use verdict::{CopyOut, Touched, Verdict};
+pub use view::{Pulled, View, Window};

@@ -10,8 +10,6 @@ mod laws;
 mod masks;
 mod statement;
 mod targets;
-#[cfg(test)]
-mod tests;
 mod values;
 
 pub use duplicates::duplicate;

@@ -1,5 +1,5 @@
 use Rattle.std.proofs.Common.{◌∙◌, length, get_or, ap, refl, arith}
-use Rattle.ct_machine.specs.declared.command.Journaled.{Journaled}
+use Rattle.ct_types.specs.declared.command.Journaled.{Journaled}
 use Rattle.ct_run.proofs.Goes.{goes_statement}
 use Rattle.ct_run.proofs.play.play_lane.Goals as goal
 

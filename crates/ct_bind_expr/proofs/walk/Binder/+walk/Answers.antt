@@ -1,7 +1,7 @@
 use Rattle.std.proofs.Common.{refl, ap, Bool, Ok}
 use Rattle.ct_types.specs.declared.bound.BoundExpr.TheVariants as bound
 use Rattle.ct_types.specs.declared.expr.Expr.TheVariants as form
-use Rattle.ct_kinds.specs.declared.kind.Kind.TheVariants.{Number, Condition, Null}
+use Rattle.ct_bind_kinds.specs.declared.kind.Kind.TheVariants.{Number, Condition, Null}
 use Rattle.ct_types.specs.Answers.{Answer}
 use Rattle.ct_bind_expr.specs.declared.place.Typed.{Typed}
 use Rattle.ct_bind_expr.specs.declared.place.WalkedTerm.{WalkedTerm}

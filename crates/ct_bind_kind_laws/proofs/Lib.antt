@@ -1,0 +1,15 @@
+pub mod Lists
+pub mod Operators
+pub mod Chains
+pub mod Columns
+pub mod Keys
+pub mod Versions
+pub mod Walks
+pub mod Named
+pub mod Targets
+pub mod Writing
+pub mod Sourcing
+pub mod Joins
+pub mod Selecting
+pub mod Binding
+pub mod Sound

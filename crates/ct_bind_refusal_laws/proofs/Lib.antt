@@ -1,0 +1,14 @@
+pub mod Among
+pub mod Passed
+pub mod Layers
+pub mod Expressions
+pub mod Walked
+pub mod Rules
+pub mod Definitions
+pub mod Refusals
+pub mod Binding
+pub mod Meets
+pub mod Mentioned
+pub mod Meeting
+pub mod Uncaused
+pub mod Taken

@@ -1,0 +1,4 @@
+pub mod Mentions
+pub mod Causes
+pub mod Laws
+pub mod Own

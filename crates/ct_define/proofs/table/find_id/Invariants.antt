@@ -1,6 +1,0 @@
-use Rattle.std.proofs.Common.{◌≡◌, ◌+◌, drop}
-use Rattle.ct_define.specs.Definitions.{id_from}
-use Rattle.ct_define.proofs.table.find_id.Given as goal
-
-abbrev pub invariant-loop-column : goal.invariant-loop-column
-invariant-loop-column l = (id_from l.name l.id (drop l.column-index l.columns) ≡ id_from l.name 1 l.columns) × (l.id ≡ l.column-index + 1)

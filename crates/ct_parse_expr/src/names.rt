@@ -1,0 +1,88 @@
+//! Names, and lists of them.
+
+ghost use Rattle.std.specs.Prelude.{◌≡◌, [], ◌∷◌, ◌++◌};
+ghost use Rattle.ct_grammar.specs.Reading.{Reads, guard, need, option};
+ghost use Rattle.ct_grammar.specs.declared.kind.Kind.TheVariants as k;
+ghost use Rattle.ct_parse_expr.specs.Nests.{Nests};
+ghost use Rattle.ct_parse_expr.specs.ReadExpr as spec;
+ghost use Rattle.ct_parse_expr.specs.declared.level.Entry.TheVariants.{Whole};
+
+use crate::trees::{column_of, with_first};
+use ct_grammar::{Cursor, Fault, Kind, read_many};
+use ct_types::{Expr, List, ObjectName, Text};
+use std::alloc::Global;
+
+#[tactic(auto, unfolding(crate::specs::ReadExpr::second_part))]
+fn second_part(alloc: Global, tokens: &mut Cursor<'_>) -> Result<Text, Fault>
+    ensures { Reads (spec.second_part tokens.old) result tokens.new }
+{
+    tokens.skip(Kind::Dot)?;
+    tokens.name(alloc)
+}
+
+fn maybe_second(alloc: Global, tokens: &mut Cursor<'_>) -> Result<Option<Text>, Fault>
+    ensures { Reads (option (k.Dot ∷ []) spec.second_part tokens.old) result tokens.new }
+{
+    if tokens.sees(&[Kind::Dot]) {
+        Ok(Some(second_part(alloc, tokens)?))
+    } else {
+        Ok(None)
+    }
+}
+
+/// A table's name.
+#[tactic(auto, unfolding(crate::specs::ReadExpr::table_name))]
+pub fn table_name(alloc: Global, tokens: &mut Cursor<'_>) -> Result<ObjectName, Fault>
+    ensures { Reads (spec.table_name tokens.old) result tokens.new }
+{
+    let first = tokens.name(alloc)?;
+    let second = maybe_second(alloc, tokens)?;
+    Ok(ObjectName { first, second })
+}
+
+/// Another name of what stands before it.
+#[tactic(auto, unfolding(crate::specs::ReadExpr::alias))]
+pub fn alias(alloc: Global, tokens: &mut Cursor<'_>) -> Result<Text, Fault>
+    ensures { Reads (spec.alias tokens.old) result tokens.new }
+{
+    tokens.skip_if(Kind::As)?;
+    tokens.name(alloc)
+}
+
+#[tactic(auto, unfolding(crate::specs::ReadExpr::next_name))]
+fn next_name(alloc: Global, tokens: &mut Cursor<'_>) -> Result<Text, Fault>
+    ensures { Reads (spec.next_name tokens.old) result tokens.new }
+{
+    tokens.skip(Kind::Comma)?;
+    tokens.name(alloc)
+}
+
+#[tactic(auto, unfolding(crate::specs::ReadExpr::more_names))]
+fn more_names(alloc: Global, tokens: &mut Cursor<'_>) -> Result<List<Text>, Fault>
+    ensures { Reads (spec.more_names tokens.old) result tokens.new }
+{
+    read_many(alloc, tokens, &[Kind::Comma], |tokens: &mut Cursor<'_>| {
+        next_name(alloc, tokens)
+    })
+}
+
+/// Names in brackets.
+#[tactic(auto, unfolding(crate::specs::ReadExpr::name_list))]
+pub fn name_list(alloc: Global, tokens: &mut Cursor<'_>) -> Result<List<Text>, Fault>
+    ensures { Reads (spec.name_list tokens.old) result tokens.new }
+{
+    tokens.skip(Kind::Open)?;
+    let first = tokens.name(alloc)?;
+    let more = more_names(alloc, tokens)?;
+    tokens.skip(Kind::Close)?;
+    Ok(with_first(first, more)?)
+}
+
+#[tactic(auto, unfolding(crate::specs::ReadExpr::column))]
+pub fn column(alloc: Global, tokens: &mut Cursor<'_>) -> Result<Expr, Fault>
+    ensures { Reads (spec.column tokens.old) result tokens.new }
+{
+    let first = tokens.name(alloc)?;
+    let second = maybe_second(alloc, tokens)?;
+    Ok(Expr::Column(column_of(first, second)))
+}

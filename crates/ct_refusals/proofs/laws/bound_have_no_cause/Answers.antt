@@ -1,5 +1,0 @@
-use Rattle.ct_refusals.proofs.Taken
-use Rattle.ct_refusals.proofs.laws.bound_have_no_cause.Goals as goal
-
-pub returns : goal.returns
-returns c = Taken.bound_have_no_cause

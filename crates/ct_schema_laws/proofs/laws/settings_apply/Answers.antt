@@ -1,5 +1,0 @@
-use Rattle.ct_schema_laws.proofs.Settings as laws
-use Rattle.ct_schema_laws.proofs.laws.settings_apply.Goals as goal
-
-pub returns : goal.returns
-returns c = laws.settings_apply

@@ -1,6 +1,0 @@
-pub mod Kept
-pub mod Fitting
-pub mod Rules
-pub mod Versions
-pub mod Values
-pub mod Types
