@@ -5,8 +5,8 @@ ghost use Rattle.ct_bind.specs.Limits.{HaveFewColumns, KeepsLimits};
 
 use crate::queries::select;
 use crate::writes::write_of;
-use ct_bind_expr::{Binder, Place, of_kind};
 use ct_bind_definition::{alter_database, create, disable, enable};
+use ct_bind_expr::{Binder, Place, of_kind};
 use ct_bind_kinds::{Kind, kind_of_type};
 use ct_bind_names::{column_type, declared_variable, existing_table, is_declared};
 use ct_types::{

@@ -79,6 +79,7 @@ decide_told : (db : Db) (what : Command) → IsTold (decide db what)
 unfolding decide
 decide_told db (Wrong refusal) = tt
 decide_told db (Sql statement) = chosen (is_built statement) _ _ (once_told db (binding (catalogue db) db.keep [] statement)) tt
+decide_told db command = tt
 
 settled_told : (m : Machine) (decision : Decision) → IsTold decision → IsTold (settled m decision)
 settled_told m (Refuses refusal) told = tt

@@ -4,9 +4,8 @@ ghost use Rattle.ct_machine.specs.Step.{entry_of, has_room as has_room_for};
 
 use crate::decide::decide_command;
 use ct_machine::{Decision, draws_version, has_number};
-use ct_types::Command;
 use ct_model::{Db, apply};
-use ct_types::{Act, Entry, Memory, Refusal, Reply};
+use ct_types::{Act, Command, Entry, Memory, Refusal, Reply};
 use std::alloc::Global;
 use std::marker::Model;
 

@@ -13,12 +13,10 @@ ghost use Rattle.ct_core.specs.Range.{IsNarrow, DecisionIsNarrow};
 
 use crate::reads::{NoVersions, catalogue, catalogued, env, selected};
 use ct_bind::bind;
-use ct_machine::is_built;
-use ct_machine::Decision;
-use ct_types::Command;
+use ct_machine::{Decision, is_built};
 use ct_model::{Db, Table, find_table};
 use ct_types::{
-    Act, Bound, BoundSelect, BoundWrite, Copies, Key, List, Memory, Refusal, Reply, Stmt,
+    Act, Bound, BoundSelect, BoundWrite, Command, Copies, Key, List, Memory, Refusal, Reply, Stmt,
     Variables, Write,
 };
 use ct_write::{duplicate, writes};
@@ -221,5 +219,15 @@ pub(crate) fn decide_command(alloc: Global, db: &Db, what: &Command) -> Result<D
                 Ok(Decision::Refuses(Refusal::NotBuilt))
             }
         }
+        Command::Advance(_)
+        | Command::Raise
+        | Command::Sweep(_)
+        | Command::CheckpointBegin
+        | Command::CheckpointPiece
+        | Command::CheckpointFinish
+        | Command::Sync { .. }
+        | Command::Look { .. }
+        | Command::Pull { .. }
+        | Command::Copy { .. } => Ok(Decision::Refuses(Refusal::NotBuilt)),
     }
 }

@@ -21,6 +21,7 @@ use Rattle.ct_machine.specs.Built.{is_built}
 use Rattle.ct_machine_laws.proofs.Creating.{Creates, create_kept}
 use Rattle.ct_machine_laws.proofs.Settings.{Sets, settings_apply_by}
 use Rattle.ct_machine_laws.proofs.Switches.{SwitchesOn, enable_kept, new_schema}
+use Rattle.ct_types.specs.declared.command.Command.{Command}
 use Rattle.ct_types.specs.declared.command.Command.TheVariants.{Sql, Wrong}
 use Rattle.ct_machine.specs.declared.decision.Decision.{Decision}
 use Rattle.ct_machine.specs.declared.decision.Decision.TheVariants.{Refuses, Commits}
@@ -28,7 +29,7 @@ use Rattle.ct_machine.specs.Decide.{answered, decide, decide_bound, once_bound}
 use Rattle.ct_machine.specs.Machine.{Machine, db_of}
 use Rattle.ct_machine.specs.Reads.{catalogue, selected}
 use Rattle.ct_machine.specs.Step.{act_draws, decision_of, entry_of}
-use Rattle.ct_machine_laws.specs.Laws.{CreatesCommitWell, EnablesCommitWell, SelectsCommitWell, SettingsCommitWell, UnbuiltCommitsWell, WrongCommitsWell}
+use Rattle.ct_machine_laws.specs.Laws.{CommandsCommitWell, IsScriptCommand, CreatesCommitWell, EnablesCommitWell, SelectsCommitWell, SettingsCommitWell, UnbuiltCommitsWell, WrongCommitsWell}
 use Rattle.ct_machine_laws.proofs.Soundness.{settled_commits, sound_is_valid}
 
 -- ---- what stands behind a statement that commits
@@ -116,6 +117,15 @@ wrong_decides db refusal act reply e = cc
 
 pub wrong_commits_well : WrongCommitsWell
 wrong_commits_well m refusal act reply e = absurd (wrong_decides (db_of m) refusal act reply (settled_commits m (decide (db_of m) (Wrong refusal)) act reply e).0)
+
+command_decides : (db : Db) (what : Command) (act : Act) (reply : Reply) → IsScriptCommand what → decide db what ≡ Commits act reply → ⊥
+unfolding decide
+command_decides db (Sql statement) act reply is e = is
+command_decides db (Wrong refusal) act reply is e = is
+command_decides db command act reply is e = cc
+
+pub commands_commit_well : CommandsCommitWell
+commands_commit_well m what is act reply e = absurd (command_decides (db_of m) what act reply is (settled_commits m (decide (db_of m) what) act reply e).0)
 
 -- a form that is not built is refused
 refused : (test : Bool) (d : Decision) (act : Act) (reply : Reply) → test ≡ false → (if test then d else Refuses NotBuilt) ≡ Commits act reply → ⊥

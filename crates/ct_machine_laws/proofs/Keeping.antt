@@ -20,7 +20,7 @@ use Rattle.ct_machine.specs.Step.{step}
 use Rattle.ct_machine_laws.specs.Laws.{IsAccepted}
 use Rattle.ct_machine_laws.specs.Sound.{CommitsWell, IsSound}
 use Rattle.ct_machine.specs.Fits.{AnswerFits, RowsFit}
-use Rattle.ct_machine_laws.proofs.Committing.{creates_commit_well, enables_commit_well, selects_commit_well, settings_commit_well, unbuilt_commits_well, wrong_commits_well}
+use Rattle.ct_machine_laws.proofs.Committing.{commands_commit_well, creates_commit_well, enables_commit_well, selects_commit_well, settings_commit_well, unbuilt_commits_well, wrong_commits_well}
 use Rattle.ct_machine_laws.proofs.Soundness.{sound_is_valid, stays_sound}
 use Rattle.ct_machine_laws.proofs.Writing.{writes_commit_well}
 use Rattle.ct_machine_laws.proofs.Accepted.{writes_suit_their_table}
@@ -56,6 +56,7 @@ commits_well m (Sql statement) sound spelled fits = by (is_built statement) refl
     by : (test : Bool) → is_built statement ≡ test → CommitsWell m (Sql statement)
     by true built = built_commits_well m statement sound spelled built (fits built)
     by false unbuilt = unbuilt_commits_well m statement unbuilt
+commits_well m command sound spelled fits = commands_commit_well m command tt
 
 pub keeps_sound : KeepsSound
 keeps_sound m what reply sound spelled fits = by (is_memory reply) refl

@@ -2,17 +2,17 @@
 use Rattle.std.specs.Prelude.{◌≡◌, false}
 use Rattle.ct_types.specs.declared.reply.Reply.{Reply}
 use Rattle.ct_types.specs.declared.command.Command.{Command}
-use Rattle.ct_types.specs.declared.command.Command.TheVariants.{Sql, Wrong}
+use Rattle.ct_types.specs.declared.command.Command.TheVariants.{Sql}
 use Rattle.ct_machine.specs.Machine.{Machine, db_of}
 use Rattle.ct_machine.specs.Play.{after, is_memory}
 use Rattle.ct_machine_laws.specs.Sound.{IsSound}
 use Rattle.ct_machine.specs.Fits.{RowsFit}
 use Rattle.ct_machine_laws.specs.Spelled.{IsSpelled}
 
--- a sentence is one that the grammar gives; of a text that is none nothing is asked
+-- a sentence is one that the grammar gives; of anything else nothing is asked
 abbrev pub IsSpelledCommand : Command → Type 0
 IsSpelledCommand (Sql tree) = IsSpelled tree
-IsSpelledCommand (Wrong refusal) = Unit {0}
+IsSpelledCommand other = Unit {0}
 
 -- a sound machine is sound after a statement that the grammar gives, whatever it was answered, where the rows that the statement
 -- writes fit their table; want of memory writes none

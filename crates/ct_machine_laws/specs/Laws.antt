@@ -83,6 +83,16 @@ SelectsCommitWell = (m : Machine) (query : Select) → CommitsWell m (Sql (stmt.
 abbrev pub UnbuiltCommitsWell : Type 0
 UnbuiltCommitsWell = (m : Machine) (statement : Stmt) → is_built statement ≡ false → CommitsWell m (Sql statement)
 
+-- a command of a script, which is no sentence; none is built
+abbrev pub IsScriptCommand : Command → Type 0
+IsScriptCommand (Sql statement) = ⊥
+IsScriptCommand (Wrong refusal) = ⊥
+IsScriptCommand command = Unit {0}
+
+-- nor does such a command
+abbrev pub CommandsCommitWell : Type 0
+CommandsCommitWell = (m : Machine) (command : Command) → IsScriptCommand command → CommitsWell m command
+
 -- what has to hold of a write that was bound, on the table as it stands: what binding promises of its columns and kinds, and
 -- that the rows that are written fit
 pub record IsAccepted (db : Db) (write : BoundWrite) (table : Table) : Type 0 where

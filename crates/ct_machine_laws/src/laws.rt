@@ -3,7 +3,7 @@ ghost use Rattle.ct_machine_laws.specs.Acts.{CreatesApply, EnablesApply, Disable
 ghost use Rattle.ct_machine_laws.specs.Grammar.{ParsedAreSpelled};
 ghost use Rattle.ct_machine_laws.specs.Writes.{WritesSuitTheirTable};
 ghost use Rattle.ct_machine_laws.specs.Laws.{OpensSound, SoundIsValid, EntriesApply, StaysSound, PlaysKeepValid};
-ghost use Rattle.ct_machine_laws.specs.Laws.{SettingsCommitWell, CreatesCommitWell, EnablesCommitWell, WrongCommitsWell, SelectsCommitWell, UnbuiltCommitsWell, WritesCommitWell};
+ghost use Rattle.ct_machine_laws.specs.Laws.{SettingsCommitWell, CreatesCommitWell, EnablesCommitWell, WrongCommitsWell, SelectsCommitWell, UnbuiltCommitsWell, CommandsCommitWell, WritesCommitWell};
 ghost use Rattle.ct_machine_laws.specs.Keeping.{KeepsSound};
 
 /// A table that CREATE TABLE makes is one that may be defined, has the next id, and no table of the catalogue has its name.
@@ -96,6 +96,11 @@ pub fn selects_commit_well()
 /// A sentence of a form that is not built commits nothing.
 pub fn unbuilt_commits_well()
     ensures { UnbuiltCommitsWell }
+{}
+
+/// A command of a script commits nothing, since none is built.
+pub fn commands_commit_well()
+    ensures { CommandsCommitWell }
 {}
 
 /// What INSERT, UPDATE and DELETE commit applies, where binding keeps its promise of columns and kinds, and where the rows

@@ -23,20 +23,23 @@ means_refused text refusal other told = told
 pub means_spelled : (text : List ℕ) (what : Command) → Means text what → IsSpelledCommand what
 means_spelled text (Sql tree) (tokens, cut, parsed) = parsed_are_spelled text tokens tree cut parsed
 means_spelled text (Wrong refusal) means = tt
+means_spelled text other means = absurd means
 
 -- the parser's answer that a command stands for, and the command of an answer
 answer_of : Command → Result Stmt Refusal
 answer_of (Sql tree) = Ok tree
 answer_of (Wrong refusal) = Err refusal
+answer_of other = Err Memory
 
 of_answer : Result Stmt Refusal → Command
 of_answer (Ok tree) = Sql tree
 of_answer (Err refusal) = Wrong refusal
 
-of_answer_of : (what : Command) → of_answer (answer_of what) ≡ what
+of_answer_of : (text : List ℕ) (what : Command) → Means text what → of_answer (answer_of what) ≡ what
 unfolding of_answer answer_of
-of_answer_of (Sql tree) = refl
-of_answer_of (Wrong refusal) = refl
+of_answer_of text (Sql tree) means = refl
+of_answer_of text (Wrong refusal) means = refl
+of_answer_of text other means = absurd means
 
 -- a text is stuck, or the parser answers it
 abbrev IsRead : List ℕ → Command → Type 0
@@ -48,6 +51,7 @@ read text (Sql tree) means = inr (λ e. cc, means)
 read text (Wrong Memory) means = absurd means
 read text (Wrong (Syntax at)) means = elim means [ inl stuck ↦ inl (at, refl, stuck) | inr told ↦ inr (λ e. cc, told) ]
 read text (Wrong refusal) means = inr (λ e. cc, means)
+read text other means = absurd means
 
 pub one_command : (text : List ℕ) (what other : Command) → Means text what → Means text other → what ≡ other
 one_command text what other means also = by (read text what means) (read text other also)
@@ -59,4 +63,4 @@ one_command text what other means also = by (read text what means) (read text ot
     by (inr (some, (tokens, cut, parsed))) (inr (more, (others, again, reparsed))) =
         let same : others ≡ tokens = one_tokens text others tokens again cut in
         let answer = answers_once text tokens (answer_of what) (answer_of other) some more parsed (subst (λ found. Parsed text found (answer_of other)) same reparsed) in
-        sym (of_answer_of what) ∙ ap of_answer answer ∙ of_answer_of other
+        sym (of_answer_of text what means) ∙ ap of_answer answer ∙ of_answer_of text other also

@@ -19,12 +19,13 @@ abbrev pub IsAnswered : List ℕ → Result Stmt Refusal → Type 0
 IsAnswered text answer = (tokens : List Token) × IsCut text tokens × Parsed text tokens answer
 
 -- A text is the one tree that its tokens spell, or it is wrong: at the place where no token begins, or as the parser refuses its
--- tokens. Want of memory is never a command.
+-- tokens. Want of memory is never a command, and no text is a command of a script yet.
 abbrev pub Means : List ℕ → Command → Type 0
 Means text (Sql tree) = IsAnswered text (Ok tree)
 Means text (Wrong Memory) = ⊥
 Means text (Wrong (Syntax at)) = IsStuck text at ⊎ IsAnswered text (Err (Syntax at))
 Means text (Wrong refusal) = IsAnswered text (Err refusal)
+Means text other = ⊥
 
 -- ---- the statements of a phase
 

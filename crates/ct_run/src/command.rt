@@ -2,9 +2,8 @@ ghost use Rattle.std.specs.Prelude.{◌<◌, ◌^◌, ℕ, List as Listed, Err, 
 ghost use Rattle.ct_run.specs.Schedule.{IsAnswered, Means};
 
 use ct_lexer::{LexError, tokens};
-use ct_types::Command;
 use ct_parser::parse;
-use ct_types::{Memory, Refusal, Text};
+use ct_types::{Command, Memory, Refusal, Text};
 use std::alloc::Global;
 
 /// The command of a text that the parser refuses. Want of memory is none.

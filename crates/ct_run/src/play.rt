@@ -11,9 +11,8 @@ ghost use Rattle.ct_run.specs.Top.{IsRunOf};
 use crate::Gate;
 use crate::command::command_of;
 use ct_core::Core;
-use ct_types::Journaled;
 use ct_script::{Lane, Phase, Script};
-use ct_types::{List, Memory};
+use ct_types::{Journaled, List, Memory};
 use std::alloc::Global;
 
 /// Plays the statements of a lane, one after the other, puts them into the journal, and tells the gate of each.

@@ -1,5 +1,5 @@
-use ct_lexer::{LexError, TokenKind, tokens};
 use ct_lexer::TokenKind::{Bracketed, Bytes, Name, Number, Sign, Text, Variable};
+use ct_lexer::{LexError, TokenKind, tokens};
 use std::test::Fail;
 
 /// Each text with its tokens: kind, first byte, end.

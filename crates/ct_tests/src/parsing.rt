@@ -1,5 +1,5 @@
-use ct_parser::parse;
 use ct_lexer::{LexError, tokens};
+use ct_parser::parse;
 use ct_types::{Refusal, Stmt};
 use std::alloc::Global;
 use std::test::Fail;

@@ -1,7 +1,7 @@
 use ct_print::{print_block, print_value};
-use ct_types::{Command, Journaled};
 use ct_types::{
-    Bin, CopyOut, Grid, Key, List, Memory, Op, Refusal, Reply, Row, Text, Touched, Value, Verdict,
+    Bin, Command, CopyOut, Grid, Journaled, Key, List, Memory, Op, Refusal, Reply, Row, Text,
+    Touched, Value, Verdict,
 };
 use std::alloc::Global;
 use std::test::Fail;

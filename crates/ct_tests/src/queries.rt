@@ -1,5 +1,5 @@
-use ct_query::select;
 use ct_expr::{Env, Versions};
+use ct_query::select;
 use ct_types::{
     BoundExpr, BoundTerm, Comparison, Grid, Join, Key, List, Memory, OrderBy, Plan, Refusal, Row,
     Value, Variables, VersionRow,

@@ -1,5 +1,5 @@
-use ct_run::{NoGate, run_top};
 use ct_faults::{Failed, MemSink, MemSource, NoDisk, Sink, Source};
+use ct_run::{NoGate, run_top};
 use ct_types::{Bin, Copies, Key, List, Memory, Refusal, Reply, Text, Value};
 use std::alloc::{AllocError, Global};
 use std::sync::Wait;

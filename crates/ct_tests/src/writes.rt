@@ -4,13 +4,13 @@ ghost use Rattle.ct_mask.specs.Masks.{IsId};
 ghost use Rattle.ct_write.specs.Rows.{set_columns};
 ghost use Rattle.ct_write.specs.Writes.{NamesIds};
 
-use ct_write::{duplicate, writes};
 use ct_expr::{Env, Versions};
 use ct_types::{
     Bin, BoundExpr, BoundSet, BoundWrite, Catalogued, ColType, Column, Comparison, Key, List,
     Memory, Misfit, Op, Refusal, Row, RowChange, Schema, Text, Tracked, Value, Variables,
     VersionRow, Write,
 };
+use ct_write::{duplicate, writes};
 use sqlite_items::{Boxed, Items};
 use std::alloc::Global;
 use std::test::Fail;
