@@ -59,14 +59,11 @@ fn without_duplicates(alloc: Global, table: &Table, writes: List<Write>) -> Resu
     ensures is { IfOk result (λ made. made ≡ spec.fitted table.now (Ok writes)) }
     ensures narrow { IfOk result DecisionIsNarrow }
 {
-    if writes.as_slice().len() > u32::MAX as usize {
-        return Err(Memory);
-    }
     match duplicate(writes.as_slice(), table.rows.as_slice(), &table.schema) {
         None => Ok(counted(writes)),
         Some(place) => Ok(Decision::Refuses(Refusal::Duplicate {
             table: table.schema.name.copy(alloc)?,
-            key: key_at(alloc, writes.as_slice(), place as usize)?,
+            key: key_at(alloc, writes.as_slice(), place)?,
         })),
     }
 }

@@ -58,8 +58,8 @@ ran words source sink disk bytes ends left =
       journals = plays.2.0;
       reads = subst (λ b. Reads b (Ok plays.0)) same plays.1;
       is_run = plays.2.1;
-      is_whole = plays.2.2.0;
-      appends = plays.2.2.1;
+      is_whole = plays.2.3.0;
+      appends = plays.2.3.1;
     }
 
 pub one_transcript : (words others : List (String Global)) (source source' : SourceChange) (sink sink' : SinkChange) (disk disk' : DiskChange) (bytes : List ℕ)
@@ -107,7 +107,7 @@ completes BadScript words source sink disk bytes script ends is left reads few r
     let answers = ends.1 in
     absurd (no_fault bytes answers.0 script sink (read_whole source.before source.now answers.0 bytes answers.1.taken answers.1.ended left) reads answers.2)
 completes ReadFault words source sink disk bytes script ends is left reads few read written = absurd (read ends.1.0)
-completes WriteFault words source sink disk bytes script ends is left reads few read written = absurd (written ends.1.2.2.2.1)
+completes WriteFault words source sink disk bytes script ends is left reads few read written = absurd (written ends.1.2.2.3.1)
 completes DiskFault words source sink disk bytes script ends is left reads few read written = absurd ends.1
 completes Foreign words source sink disk bytes script ends is left reads few read written = absurd ends.1
 completes TooLarge words source sink disk bytes script ends is left reads few read written = absurd (few_taken source.before source.now bytes left few ends.1.0)

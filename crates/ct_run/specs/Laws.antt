@@ -21,7 +21,7 @@ Completes = (status : Status) (words : List (String Global)) (source : SourceCha
     → Ends status words source sink disk → IsRun words → source.before ≡ Some bytes → Reads bytes (Ok script) → length bytes ≤ most_bytes
     → ¬ SourceFailed source → ¬ SinkFailed sink → (status ≡ Done) ⊎ (status ≡ Memory)
 
--- a text is one command
+-- a text is at most one command
 abbrev pub OneCommand : Type 0
 OneCommand = (text : List ℕ) (what other : Command) → Means text what → Means text other → what ≡ other
 

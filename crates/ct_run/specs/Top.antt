@@ -53,6 +53,16 @@ pub record DiskChange : Type 0 where
   pub faults_before : ℕ
   pub faults_now : ℕ
 
+-- what changed of a source in a call, by what it has left and the count of its faults; and of a sink, by what it holds; and of a disk
+abbrev pub source_change : {S : Type 0} → (S → Option (List ℕ)) → (S → ℕ) → S → S → SourceChange
+source_change left faults old new = record { before = left old; now = left new; faults_before = faults old; faults_now = faults new }
+
+abbrev pub sink_change : {K : Type 0} → (K → Option (List ℕ)) → (K → ℕ) → K → K → SinkChange
+sink_change held faults old new = record { before = held old; now = held new; faults_before = faults old; faults_now = faults new }
+
+abbrev pub disk_change : {D : Type 0} → (D → ℕ) → D → D → DiskChange
+disk_change faults old new = record { faults_before = faults old; faults_now = faults new }
+
 -- the source failed in this call
 abbrev pub SourceFailed : SourceChange → Type 0
 SourceFailed source = Rose source.faults_before source.faults_now
@@ -79,8 +89,10 @@ all_of journals = flat_map (λ journal. journal) journals
 pub record IsRunOf (script : Script) (journals : List (List Journaled)) : Type 0 where
   pub in_order : AreInOrder script.phases journals
   pub is_play : IsPlay (opening no_db) (all_of journals)
-  -- each machine that the run passes is sound: its database is valid, and its entries apply in turn to the empty one
-  pub sound : StaySound (opening no_db) (all_of journals)
+
+-- each machine that a run passes is sound: its database is valid, and its entries apply in turn to the empty one
+abbrev pub IsSoundThroughout : List (List Journaled) → Type 0
+IsSoundThroughout journals = StaySound (opening no_db) (all_of journals)
 
 -- what the sink got of the transcript, by the status: at status 0 all of it, and no reply says that memory was wanting; at
 -- 4 a front part, since a write failed, and no reply says so either; at 7 a front part, which may be none or all of it;
@@ -91,9 +103,9 @@ Writes WriteFault sink journals = IsWhole (all_of journals) × SinkFailed sink �
 Writes Memory sink journals = AppendsFront sink.before sink.now (run_text journals)
 Writes other sink journals = ⊥
 
--- a run of the script was written
+-- a run of the script, which is sound throughout, was written
 abbrev pub PlaysScript : Status → SinkChange → Script → Type 0
-PlaysScript status sink script = (journals : List (List Journaled)) × IsRunOf script journals × Writes status sink journals
+PlaysScript status sink script = (journals : List (List Journaled)) × IsRunOf script journals × IsSoundThroughout journals × Writes status sink journals
 
 -- the bytes are a script, and a run of it was written
 abbrev pub PlaysBytes : Status → SinkChange → List ℕ → Type 0

@@ -6,7 +6,7 @@ pub fn completes()
     ensures { Completes }
 {}
 
-/// A text is one command.
+/// A text is at most one command.
 pub fn one_command()
     ensures { OneCommand }
 {}

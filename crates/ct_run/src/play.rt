@@ -6,7 +6,7 @@ ghost use Rattle.ct_machine.specs.Machine.{opening};
 ghost use Rattle.ct_core.specs.Stands.{Stands};
 ghost use Rattle.ct_run.specs.Schedule.{numbered_in_lane, numbered_in};
 ghost use Rattle.ct_run.specs.Steps.{Goes};
-ghost use Rattle.ct_run.specs.Top.{IsRunOf};
+ghost use Rattle.ct_run.specs.Top.{IsRunOf, IsSoundThroughout};
 
 use crate::Gate;
 use crate::command::command_of;
@@ -72,6 +72,7 @@ fn play_all<D, G: Gate>(
     requires within { IsWithin most_bytes script.now }
     requires opening { Stands core.old (opening no_db) }
     ensures run { IfOk result (IsRunOf script.now) }
+    ensures sound { IfOk result IsSoundThroughout }
     ensures count { IfOk result (λ journals. sum_by length journals ≡ script_size script.now) }
     ensures disk { core.new.disk ≡ core.old.disk }
 {
@@ -92,6 +93,7 @@ pub(crate) fn play_script<D, G: Gate>(
 ) -> (Result<List<List<Journaled>>, Memory>, D)
     requires { IsWithin most_bytes script.now }
     ensures run { IfOk result.0 (IsRunOf script.now) }
+    ensures sound { IfOk result.0 IsSoundThroughout }
     ensures count { IfOk result.0 (λ journals. sum_by length journals ≡ script_size script.now) }
     ensures disk { result.1 ≡ disk }
 {

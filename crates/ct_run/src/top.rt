@@ -5,7 +5,7 @@ ghost use Rattle.ct_machine.specs.Play.{is_memory};
 ghost use Rattle.ct_script.specs.Size.{IsWithin};
 ghost use Rattle.ct_run.specs.declared.status.Status.{Status as Ending};
 ghost use Rattle.ct_run.specs.Steps.{Performs};
-ghost use Rattle.ct_run.specs.Top.{code_of, DiskChange, IsRun, Says, Writes, Answers, Runs, Ends, all_of, fault_text};
+ghost use Rattle.ct_run.specs.Top.{code_of, DiskChange, source_change, sink_change, disk_change, IsRun, Says, Writes, Answers, Runs, Ends, all_of, fault_text};
 
 use crate::play::play_script;
 use crate::{Gate, Status};
@@ -28,7 +28,7 @@ pub struct Done<D> {
 
 /// Writes a line of the program's own. Where a write fails the sink has a front part of it; the status stays.
 fn say<K: Sink>(sink: &mut K, text: &[u8])
-    ensures { Says (record { before = K.held sink.old; now = K.held sink.new; faults_before = K.faults sink.old; faults_now = K.faults sink.new })
+    ensures { Says (sink_change K.held K.faults sink.old sink.new)
         text.now }
 {
     let _ = write_all(sink, text);
@@ -56,7 +56,7 @@ fn run_wants_memory(journals: &[List<Journaled>]) -> bool
 fn write_run<K: Sink>(alloc: Global, journals: &[List<Journaled>], sink: &mut K) -> Status
     requires { sum_by length journals.now < 2 ^ 31 }
     ensures { Writes result
-        (record { before = K.held sink.old; now = K.held sink.new; faults_before = K.faults sink.old; faults_now = K.faults sink.new })
+        (sink_change K.held K.faults sink.old sink.new)
         journals.now }
 {
     match print_run(alloc, journals) {
@@ -76,7 +76,7 @@ fn write_run<K: Sink>(alloc: Global, journals: &[List<Journaled>], sink: &mut K)
 
 /// Says which line of a script is at fault, and the least rule that it breaks.
 fn say_fault<K: Sink>(alloc: Global, sink: &mut K, line: u32, rule: u8) -> Result<(), AllocError>
-    ensures ok { IfOk result (λ _. Says (record { before = K.held sink.old; now = K.held sink.new; faults_before = K.faults sink.old; faults_now = K.faults sink.new })
+    ensures ok { IfOk result (λ _. Says (sink_change K.held K.faults sink.old sink.new)
         (fault_text line rule)) }
     ensures err { OnErr result (K.held sink.new ≡ K.held sink.old) }
 {
@@ -95,7 +95,7 @@ fn perform<K: Sink, D, G: Gate>(
 ) -> (Status, D)
     requires { IsWithin most_bytes script.now }
     ensures performs { Performs result.0
-        (record { before = K.held sink.old; now = K.held sink.new; faults_before = K.faults sink.old; faults_now = K.faults sink.new })
+        (sink_change K.held K.faults sink.old sink.new)
         script.now }
     ensures disk { result.1 ≡ disk }
 {
@@ -117,7 +117,7 @@ fn answer<K: Sink, D, G: Gate>(
 ) -> (Status, D)
     requires { length bytes.now ≤ most_bytes }
     ensures answers { Answers result.0
-        (record { before = K.held sink.old; now = K.held sink.new; faults_before = K.faults sink.old; faults_now = K.faults sink.new })
+        (sink_change K.held K.faults sink.old sink.new)
         bytes.now }
     ensures disk { result.1 ≡ disk }
 {
@@ -140,8 +140,8 @@ fn run<S: Source, K: Sink, D, G: Gate>(
     gate: &G,
 ) -> (Status, D)
     ensures runs { (disks : DiskChange) → Runs result.0
-        (record { before = S.left source.old; now = S.left source.new; faults_before = S.faults source.old; faults_now = S.faults source.new })
-        (record { before = K.held sink.old; now = K.held sink.new; faults_before = K.faults sink.old; faults_now = K.faults sink.new })
+        (source_change S.left S.faults source.old source.new)
+        (sink_change K.held K.faults sink.old sink.new)
         disks }
     ensures disk { result.1 ≡ disk }
 {
@@ -179,8 +179,8 @@ fn end<S: Source, K: Sink, D, G: Gate>(
     gate: &G,
 ) -> (Status, D)
     ensures ends { (disks : DiskChange) → Ends result.0 words.now
-        (record { before = S.left source.old; now = S.left source.new; faults_before = S.faults source.old; faults_now = S.faults source.new })
-        (record { before = K.held sink.old; now = K.held sink.new; faults_before = K.faults sink.old; faults_now = K.faults sink.new })
+        (source_change S.left S.faults source.old source.new)
+        (sink_change K.held K.faults sink.old sink.new)
         disks }
     ensures disk { result.1 ≡ disk }
 {
@@ -212,9 +212,9 @@ pub fn run_top<R: Threads + Wait, S: Source, K: Sink, D: Disk + Send, G: Gate + 
     gate: &G,
 ) -> Done<D>
     ensures ends { (status : Ending) × (result.status ≡ code_of status) × Ends status words.now
-        (record { before = S.left source.old; now = S.left source.new; faults_before = S.faults source.old; faults_now = S.faults source.new })
-        (record { before = K.held sink.old; now = K.held sink.new; faults_before = K.faults sink.old; faults_now = K.faults sink.new })
-        (record { faults_before = D.faults disk; faults_now = D.faults result.disk }) }
+        (source_change S.left S.faults source.old source.new)
+        (sink_change K.held K.faults sink.old sink.new)
+        (disk_change D.faults disk result.disk) }
     ensures disk { result.disk ≡ disk }
 {
     let (status, disk) = end(alloc, words, source, sink, disk, gate);

@@ -206,7 +206,12 @@ fn statements_are_refused(rt: HostRuntime) -> Result<(), Fail> {
 
 #[test]
 fn rows_are_shown(rt: HostRuntime) -> Result<(), Fail> {
-    let cases: [(&[u8], &[u8]); 4] = [
+    let cases: [(&[u8], &[u8]); 5] = [
+        // no row is deleted, so no version is drawn after that of ENABLE
+        (
+            b"1: DELETE FROM t WHERE id = 9\n1: SELECT CHANGE_TRACKING_CURRENT_VERSION() AS v\n",
+            b"[4] 1.4\nrows 0\n[5] 1.5\nv\n1\nrows 1\n",
+        ),
         // a text counts its characters, and not its bytes
         (
             b"1: INSERT t VALUES (1, 1, N'\xc3\xa9bcdefghijklmnopqrst')",

@@ -1,4 +1,4 @@
-ghost use Rattle.std.specs.Prelude.{◌≡◌, ◌^◌, ◌<◌, length};
+ghost use Rattle.std.specs.Prelude.{◌≡◌};
 ghost use Rattle.std.specs.List.{list_any};
 ghost use Rattle.ct_write.specs.Duplicates as spec;
 
@@ -32,13 +32,12 @@ fn repeats(schema: &Schema, rows: &[Row], earlier: &[Write], write: &Write) -> b
 
 /// The place, counted from 0, of the first insert whose key one of the rows or an earlier insert has; none where there is
 /// none. An INSERT of such a key is refused with 2627, as T-SQL refuses it.
-pub fn duplicate(writes: &[Write], rows: &[Row], schema: &Schema) -> Option<u32>
-    requires { length writes.now < 2 ^ 32 }
+pub fn duplicate(writes: &[Write], rows: &[Row], schema: &Schema) -> Option<usize>
     ensures { result ≡ spec.duplicate schema.now rows.now writes.now }
 {
     for (place, write) in writes.iter().enumerate() {
         if repeats(schema, rows, &writes[..place], write) {
-            return Some(place as u32);
+            return Some(place);
         }
     }
     None
