@@ -1,8 +1,8 @@
 -- An answer whose refusal, if it is one, has a cause, and the steps that keep it so.
-use Rattle.std.proofs.Common.{◌≡◌, suc, Bool, true, false, List, [], ◌∷◌, ◌++◌, length, Option, Some, None, Ok, Err, refl, sym, ap, ◌∙◌, cond, subst}
+use Rattle.std.proofs.Common.{◌≡◌, Bool, true, false, List, [], ◌∷◌, ◌++◌, Option, Some, None, Ok, Err, refl, cond, subst}
 use Rattle.std.specs.List.{AllByRecursion}
 use Rattle.ct_types.specs.declared.refusal.Refusal.{Refusal}
-use Rattle.ct_types.specs.Answers.{Answer, ◌>>=◌, ◌>>◌, demand, or_refuse, optional, each, each_after}
+use Rattle.ct_types.specs.Answers.{Answer, ◌>>=◌, ◌>>◌, demand, or_refuse, each, each_after}
 
 pub record Caused {A : Type 0} (Cause : Refusal → Type 0) (answer : Answer A) : Type 0 where
   pub holds : (refusal : Refusal) → answer ≡ Err refusal → Cause refusal
@@ -51,10 +51,6 @@ pub found_caused : {A B : Type 0} {Cause : Refusal → Type 0} (o : Option A) (r
 found_caused (Some a) refusal next cause go = go a refl
 found_caused None refusal next cause go = err_caused refusal (cause refl)
 
-pub optional_caused : {A B : Type 0} {Cause : Refusal → Type 0} (step : A → Answer B) (o : Option A) → ((a : A) → Caused Cause (step a)) → Caused Cause (optional step o)
-optional_caused step None go = ok_caused None
-optional_caused step (Some a) go = then_caused (step a) (λ b. Ok (Some b)) (go a) (λ b. ok_caused (Some b))
-
 pub each_caused : {A B : Type 0} {Cause : Refusal → Type 0} (step : A → Answer B) (all : List A) → AllByRecursion (λ a. Caused Cause (step a)) all → Caused Cause (each step all)
 each_caused step [] go = ok_caused []
 each_caused step (a ∷ more) go =
@@ -66,23 +62,3 @@ each_after_caused step before [] go = ok_caused []
 each_after_caused step before (a ∷ more) go =
     then_caused (step before a) (λ b. each_after step (before ++ a ∷ []) more >>= (λ made. Ok (b ∷ made))) (go.0 before)
     (λ b. then_caused (each_after step (before ++ a ∷ []) more) (λ made. Ok (b ∷ made)) (each_after_caused step (before ++ a ∷ []) more go.1) (λ made. ok_caused (b ∷ made)))
-
--- what holds of everything holds of each
-pub of_all : {A : Type 0} (P : A → Type 0) (all : List A) → ((a : A) → P a) → AllByRecursion P all
-of_all P [] go = tt
-of_all P (a ∷ more) go = (go a, of_all P more go)
-
--- what the two steps of a walk came to
-pub came_from : {A B : Type 0} (first : Answer A) (next : A → Answer B) (b : B) → (first >>= next) ≡ Ok b → (a : A) × (first ≡ Ok a) × (next a ≡ Ok b)
-came_from (Ok a) next b e = (a, refl, e)
-came_from (Err refusal) next b e = absurd cc
-
--- a walk makes one for each
-pub each_after_length : {A B : Type 0} (step : List A → A → Answer B) (before all : List A) (made : List B) → each_after step before all ≡ Ok made → length made ≡ length all
-each_after_length step before [] [] e = refl
-each_after_length step before [] (b ∷ made) e = absurd cc
-each_after_length step before (a ∷ more) made e =
-    let one = came_from (step before a) (λ b. each_after step (before ++ a ∷ []) more >>= (λ made. Ok (b ∷ made))) made e in
-    let others = came_from (each_after step (before ++ a ∷ []) more) (λ made. Ok (one.0 ∷ made)) made one.2 in
-    let same : one.0 ∷ others.0 ≡ made = cc (others.2) in
-    ap length (sym same) ∙ ap suc (each_after_length step (before ++ a ∷ []) more others.0 others.1)

@@ -1,7 +1,7 @@
 -- Steps that were taken, where a walk has come to an end.
-use Rattle.std.proofs.Common.{◌≡◌, Bool, true, false, cond, if◌then◌else◌, Option, Some, None, Ok, Err, refl, subst}
+use Rattle.std.proofs.Common.{◌≡◌, suc, Bool, true, false, cond, if◌then◌else◌, List, [], ◌∷◌, ◌++◌, length, Option, Some, None, Ok, Err, refl, sym, ap, ◌∙◌, subst}
 use Rattle.ct_types.specs.declared.refusal.Refusal.{Refusal}
-use Rattle.ct_types.specs.Answers.{Answer, ◌>>=◌, ◌>>◌, demand, or_refuse}
+use Rattle.ct_types.specs.Answers.{Answer, ◌>>=◌, ◌>>◌, demand, or_refuse, each_after}
 
 pub record Steps {A B : Type 0} (first : Answer A) (next : A → Answer B) (last : B) : Type 0 where
   pub came : A
@@ -26,6 +26,15 @@ same_Ok a b e = cc
 pub there : {A : Type 0} (found : Option A) (refusal : Refusal) (a : A) → or_refuse found refusal ≡ Ok a → found ≡ Some a
 there (Some b) refusal a e = cc
 there None refusal a e = absurd cc
+
+-- a walk makes one for each
+pub each_after_length : {A B : Type 0} (step : List A → A → Answer B) (before all : List A) (made : List B) → each_after step before all ≡ Ok made → length made ≡ length all
+each_after_length step before [] [] e = refl
+each_after_length step before [] (b ∷ made) e = absurd cc
+each_after_length step before (a ∷ more) made e =
+    let one = steps (step before a) (λ b. each_after step (before ++ a ∷ []) more >>= (λ made. Ok (b ∷ made))) made e in
+    let others = steps (each_after step (before ++ a ∷ []) more) (λ made. Ok (one.came ∷ made)) made one.goes in
+    ap length (sym (same_Ok (one.came ∷ others.came) made others.goes)) ∙ ap suc (each_after_length step (before ++ a ∷ []) more others.came others.is)
 
 -- ---- one answer, or another
 

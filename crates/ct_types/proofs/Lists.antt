@@ -1,11 +1,16 @@
 -- Lists each of whose items has a property, and what stands at a place.
-use Rattle.std.proofs.Common.{◌≡◌, Bool, true, false, List, [], ◌∷◌, ◌++◌, map, find, length, Some, None, not, ◌||◌, cond, refl}
+use Rattle.std.proofs.Common.{◌≡◌, Bool, true, false, List, [], ◌∷◌, ◌++◌, map, flat_map, find, length, Some, None, not, ◌||◌, cond, refl}
 use Rattle.std.specs.List.{AllByRecursion, list_any, slice_get}
 use Rattle.ct_types.proofs.AnswersTaken.{some_or}
 
 pub at_end : {X : Type 0} (before : List X) (x : X) (after : List X) → slice_get (before ++ x ∷ after) (length before) ≡ Some x
 at_end [] x after = refl
 at_end (y ∷ before) x after = at_end before x after
+
+-- what holds of everything holds of each
+pub all_everywhere : {X : Type 0} (P : X → Type 0) → ((x : X) → P x) → (xs : List X) → AllByRecursion P xs
+all_everywhere P each [] = tt
+all_everywhere P each (x ∷ xs) = (each x, all_everywhere P each xs)
 
 pub all_append : {X : Type 0} (P : X → Type 0) (xs ys : List X) → AllByRecursion P xs → AllByRecursion P ys → AllByRecursion P (xs ++ ys)
 all_append P [] ys front back = back
@@ -23,13 +28,26 @@ pub all_one : {X : Type 0} (P : X → Type 0) (test : Bool) (x : X) (xs : List X
 all_one P true x xs here more = (here, more)
 all_one P false x xs here more = more
 
-pub all_zip : {X : Type 0} (P Q R : X → Type 0) → ((x : X) → P x → Q x → R x) → (xs : List X) → AllByRecursion P xs → AllByRecursion Q xs → AllByRecursion R xs
-all_zip P Q R go [] first second = tt
-all_zip P Q R go (x ∷ xs) first second = (go x first.0 second.0, all_zip P Q R go xs first.1 second.1)
+-- two properties of each make a third
+pub all_join : {X : Type 0} (P Q R : X → Type 0) → ((x : X) → P x → Q x → R x) → (xs : List X) → AllByRecursion P xs → AllByRecursion Q xs → AllByRecursion R xs
+all_join P Q R go [] first second = tt
+all_join P Q R go (x ∷ xs) first second = (go x first.0 second.0, all_join P Q R go xs first.1 second.1)
+
+-- ---- lists that are made of other lists
+
+pub all_joined : {X : Type 0} (P : X → Type 0) (parts : List (List X)) → AllByRecursion (AllByRecursion P) parts → AllByRecursion P (flat_map (λ part. part) parts)
+all_joined P [] all = tt
+all_joined P (part ∷ parts) all = all_append P part (flat_map (λ part. part) parts) all.0 (all_joined P parts all.1)
+
+pub all_parts : {X : Type 0} (P : X → Type 0) (parts : List (List X)) → AllByRecursion P (flat_map (λ part. part) parts) → AllByRecursion (AllByRecursion P) parts
+all_parts P [] all = tt
+all_parts P (part ∷ parts) all = (all_front P part (flat_map (λ part. part) parts) all, all_parts P parts (all_back P part (flat_map (λ part. part) parts) all))
 
 pub all_mapped : {X Y : Type 0} (f : X → Y) (P : Y → Type 0) (xs : List X) → AllByRecursion P (map f xs) → AllByRecursion (λ x. P (f x)) xs
 all_mapped f P [] all = tt
 all_mapped f P (x ∷ xs) all = (all.0, all_mapped f P xs all.1)
+
+-- ---- what is found
 
 pub all_found : {X : Type 0} (P : X → Type 0) (test : X → Bool) (xs : List X) (x : X) → AllByRecursion P xs → find test xs ≡ Some x → P x
 all_found P test [] x all e = absurd cc
