@@ -8,7 +8,7 @@ use Rattle.std.proofs.lemmas.Slice.Eq.{bytes_eq-Decides}
 use Rattle.ct_types.specs.declared.catalogue.Catalogued.{Catalogued}
 use Rattle.ct_types.specs.declared.expr.ObjectName.{ObjectName}
 use Rattle.ct_model.specs.Names.{folded, IsName, IsTableName, IsInSys}
-use Rattle.ct_model.proofs.Dots.{in_sys}
+use Rattle.ct_model.proofs.InSys.{in_sys}
 use Rattle.ct_bind_names.specs.Catalogue.{table_named}
 use Rattle.ct_bind_names.specs.Names.{same, is_among, joined, table_name}
 use Rattle.ct_bind_definition.specs.Definitions.{is_in_sys}

@@ -9,7 +9,7 @@ use Rattle.ct_types.specs.declared.reply.Reply.{Reply}
 use Rattle.ct_model.specs.declared.db.Db.{Db}
 use Rattle.ct_model.specs.Applies.{ApplyInTurn, XdesApplies}
 use Rattle.ct_model.specs.Apply.{apply, no_db, replay}
-use Rattle.ct_model.proofs.InTurn.{ApplyInTurn-push, no_db_valid, replay-push, replay-valid}
+use Rattle.ct_model_laws.proofs.InTurn.{ApplyInTurn-push, no_db_valid, replay-push, replay-valid}
 use Rattle.ct_model.proofs.Members.{all_weaken}
 use Rattle.ct_machine_laws.proofs.Sameness.{both}
 use Rattle.ct_types.specs.declared.command.Command.{Command}

@@ -1,12 +1,9 @@
--- The table of an id: that it is found in changed tables too, and that a kept change is of it.
-use Rattle.std.proofs.Common.{◌≡◌, ◌<◌, ◌+◌, ℕ, Bool, true, false, cond, eqb, ◌&&◌, ◌||◌, List, [], ◌∷◌, ◌++◌, map, Option, None, Some, refl, sym, subst, arith, eqb-true}
+-- The table of an id: that it is found in changed tables too, with what holds of it.
+use Rattle.std.proofs.Common.{◌≡◌, ℕ, Bool, true, false, cond, eqb, List, [], ◌∷◌, ◌++◌, map, Option, None, Some, refl, sym, subst, eqb-true}
 use Rattle.std.specs.List.{AllByRecursion}
 use Rattle.std.specs.Option.{IsSomeAnd}
-use Rattle.ct_types.specs.declared.entry.Change.{Change}
 use Rattle.ct_model.specs.declared.db.Table.{Table}
-use Rattle.ct_model.specs.Apply.{change_stays}
-use Rattle.ct_model.specs.Tables.{table_of, is_above}
-use Rattle.ct_model.specs.Valid.{AreNumbered}
+use Rattle.ct_model.specs.Tables.{table_of}
 
 pub some_and_weaken : {X : Type 0} (P Q : X → Type 0) → ((x : X) → P x → Q x) → (o : Option X) → IsSomeAnd o P → IsSomeAnd o Q
 some_and_weaken P Q weaken None h = h
@@ -43,35 +40,6 @@ found_append P (t ∷ ts) more id found =
     let step : (b : Bool) → IsSomeAnd (cond b (Some t) (table_of ts id)) P → IsSomeAnd (cond b (Some t) (table_of (ts ++ more) id)) P =
     elim [ true ↦ (λ p. p) | false ↦ (λ p. found_append P ts more id p) ] in
     step (eqb t.schema.id id) found
-
--- no table that is numbered later has an earlier id
-none_earlier : (version : ℕ) (change : Change) (first : ℕ) (tables : List Table) → AreNumbered first tables → change.table < first
-    → change_stays tables version change ≡ false
-none_earlier version change first [] numbered lt = refl
-none_earlier version change first (t ∷ ts) numbered lt =
-    let step : (b : Bool) → b ≡ eqb t.schema.id change.table → (b && is_above version t.tracked || change_stays ts version change) ≡ false =
-    elim [
-      | true ↦ (λ e. let same : t.schema.id ≡ change.table = eqb-true _ _ (sym e) in absurd (omega (arith, numbered.0)))
-      | false ↦ (λ e. none_earlier version change (first + 1) ts numbered.1 (omega arith))
-    ] in
-    step (eqb t.schema.id change.table) refl
-
--- a change that stays is of a table that is found by its id, and its version is above that table's minimum
-pub stays_above : (version : ℕ) (change : Change) (first : ℕ) (tables : List Table) → AreNumbered first tables
-    → change_stays tables version change ≡ true → IsSomeAnd (table_of tables change.table) (λ t. is_above version t.tracked ≡ true)
-stays_above version change first [] numbered stays = cc
-stays_above version change first (t ∷ ts) numbered stays =
-    let above = is_above version t.tracked in
-    let step : (b : Bool) → b ≡ eqb t.schema.id change.table → (b && above || change_stays ts version change) ≡ true → IsSomeAnd (cond b (Some t) (table_of ts change.table)) (λ t. is_above version t.tracked ≡ true) =
-    elim [
-      | true ↦ (λ e s. here (above) (change_stays ts version change) (none_earlier version change (first + 1) ts numbered.1 (let same : t.schema.id ≡ change.table = eqb-true _ _ (sym e) in omega (arith, numbered.0))) s)
-      | false ↦ (λ e s. stays_above version change (first + 1) ts numbered.1 s)
-    ] in
-    step (eqb t.schema.id change.table) refl stays
-  where
-    here : (a later : Bool) → later ≡ false → (a || later) ≡ true → a ≡ true
-    here true later none e = refl
-    here false later none e = cc
 
 -- what is found by an id has it
 pub found_itself : (P : Table → Type 0) (tables : List Table) (id : ℕ) → IsSomeAnd (table_of tables id) P

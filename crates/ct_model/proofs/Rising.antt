@@ -4,7 +4,7 @@ use Rattle.std.specs.List.{AllByRecursion}
 use Rattle.std.specs.Option.{option_to_list}
 use Rattle.std.specs.declared.cmp.Ordering.{Ordering}
 use Rattle.std.specs.declared.cmp.Ordering.TheVariants.{Less, Equal, Greater}
-use Rattle.std.specs.Ordering.{is_lt, is_gt, ordering_reverse}
+use Rattle.std.specs.Ordering.{is_lt, is_eq, is_gt, ordering_reverse}
 use Rattle.ct_types.specs.Order.{key_cmp}
 use Rattle.ct_types.proofs.Orders.{key_cmp_total}
 use Rattle.ct_types.specs.declared.value.Key.{Key}
@@ -19,6 +19,11 @@ pub less_of : (o : Ordering) → is_lt o ≡ true → o ≡ Less
 less_of Less e = refl
 less_of Equal e = cc
 less_of Greater e = cc
+
+pub equal_of : (o : Ordering) → is_eq o ≡ true → o ≡ Equal
+equal_of Less e = cc
+equal_of Equal e = refl
+equal_of Greater e = cc
 
 pub greater_of : (o : Ordering) → is_gt o ≡ true → o ≡ Greater
 greater_of Less e = cc

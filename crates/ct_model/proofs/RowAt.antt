@@ -11,8 +11,7 @@ use Rattle.ct_types.specs.declared.value.Key.{Key}
 use Rattle.ct_types.specs.declared.value.Row.{Row}
 use Rattle.ct_types.specs.declared.schema.Schema.{Schema}
 use Rattle.ct_model.specs.Tables.{key_of, has_that_key, row_at, rows_with}
-use Rattle.ct_model.proofs.Fitting.{equal_of}
-use Rattle.ct_model.proofs.Rising.{IsAt, less_of, greater_of, turned}
+use Rattle.ct_model.proofs.Rising.{IsAt, less_of, equal_of, greater_of, turned}
 
 find_none : {X : Type 0} (p q : X → Bool) → ((x : X) → q x ≡ true → p x ≡ false) → (xs : List X) → find p (filter q xs) ≡ None
 find_none p q fails [] = refl

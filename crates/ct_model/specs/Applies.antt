@@ -20,7 +20,7 @@ use Rattle.ct_model.specs.Lists.{EachToLater}
 use Rattle.ct_model.specs.Names.{folded}
 use Rattle.ct_model.specs.Schemas.{IsSchema, RowFits}
 use Rattle.ct_model.specs.Tables.{key_of, has_row, table_of}
-use Rattle.ct_model.specs.Valid.{IsRetention, MaskFits, ContextFits, IsValid}
+use Rattle.ct_model.specs.Valid.{IsRetention, MaskFits, ContextFits}
 
 -- an insert's key is absent before it, an update's and a delete's is present
 abbrev pub is_present_before : Op → Bool
@@ -115,10 +115,6 @@ pub record Applies (db : Db) (entry : Entry) : Type 0 where
   pub time_within : entry.time ≤ 2 ^ 62
   pub xdes : XdesApplies db entry.act entry.xdes
   pub act : ActApplies db entry.version entry.draws entry.act
-
--- an entry that applies leaves a valid database valid
-abbrev pub StaysValid : Type 0
-StaysValid = (db : Db) (entry : Entry) → IsValid db → Applies db entry → IsValid (apply db entry)
 
 -- entries apply in turn: each to what those before it made
 abbrev pub ApplyInTurn : Db → List Entry → Type 0

@@ -1,13 +1,9 @@
-pub mod Agrees
 pub mod Applies
 pub mod Apply
-pub mod Cuts
-pub mod Laws
 pub mod Lists
 pub mod Names
 pub mod Net
 pub mod Schemas
 pub mod Tables
-pub mod Tells
 pub mod Valid
 pub mod Versions

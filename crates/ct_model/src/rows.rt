@@ -47,7 +47,7 @@ pub fn cmp_row(schema: &Schema, row: &Row, key: &Key) -> Ordering
 }
 
 /// Whether a row has the key.
-pub(crate) fn has_key(schema: &Schema, row: &Row, key: &Key) -> bool
+pub fn has_key(schema: &Schema, row: &Row, key: &Key) -> bool
     ensures { result ≡ has_that_key schema.now key.now row.now }
 {
     cmp_row(schema, row, key) == Ordering::Equal

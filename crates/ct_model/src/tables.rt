@@ -30,11 +30,7 @@ fn write_table(alloc: Global, write: &Write, table: &Table) -> Result<Table, Mem
 }
 
 /// The tables after one write.
-pub(crate) fn write_one(
-    alloc: Global,
-    write: &Write,
-    tables: &[Table],
-) -> Result<List<Table>, Memory>
+pub fn write_one(alloc: Global, write: &Write, tables: &[Table]) -> Result<List<Table>, Memory>
     ensures { IfOk result (λ made. made ≡ map (written write.now) tables.now) }
 {
     let mut made = List::new(alloc);
@@ -44,8 +40,7 @@ pub(crate) fn write_one(
     Ok(made)
 }
 
-/// A copy of the tables.
-pub(crate) fn copy_all(alloc: Global, tables: &[Table]) -> Result<List<Table>, Memory>
+fn copy_all(alloc: Global, tables: &[Table]) -> Result<List<Table>, Memory>
     ensures { IfOk result (λ made. made ≡ tables.now) }
 {
     let mut made = List::new(alloc);

@@ -6,7 +6,7 @@ use Rattle.std.proofs.lemmas.List.{take_more}
 use Rattle.std.proofs.lemmas.List.Concat.{length-flat_map}
 use Rattle.std.proofs.lemmas.List.Sums.{sum_by_push}
 use Rattle.ct_model.specs.Apply.{no_db}
-use Rattle.ct_model.proofs.InTurn.{no_db_valid}
+use Rattle.ct_model_laws.proofs.InTurn.{no_db_valid}
 use Rattle.ct_core.specs.Stands.{CoreState, Stands}
 use Rattle.ct_types.specs.declared.command.Journaled.{Journaled}
 use Rattle.ct_machine.specs.Machine.{Machine, db_of, opening}

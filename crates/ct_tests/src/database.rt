@@ -1,4 +1,5 @@
-use ct_model::{Db, applies, apply, find_table, has_row, key_of_row, net};
+use ct_applies::applies;
+use ct_model::{Db, apply, find_table, has_row, key_of_row, net};
 use ct_types::{
     Act, Bin, ColType, Column, Entry, Keep, Key, List, Memory, Min, NetRow, Op, Row, Schema, Text,
     Value, Write,

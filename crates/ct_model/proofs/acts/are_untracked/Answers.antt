@@ -1,6 +1,0 @@
-use Rattle.std.proofs.Common.{rules, ◌≡◌, None}
-use Rattle.ct_model.proofs.Each.{by_recursion}
-use Rattle.ct_model.proofs.acts.are_untracked.Goals as goal
-
-pub returns : goal.returns
-returns c = by_recursion (λ table. table.tracked ≡ None) c.args.tables.now _ (search rules)

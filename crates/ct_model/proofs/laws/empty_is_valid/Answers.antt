@@ -1,5 +1,0 @@
-use Rattle.ct_model.proofs.InTurn.{no_db_valid}
-use Rattle.ct_model.proofs.laws.empty_is_valid.Goals as goal
-
-pub returns : goal.returns
-returns c = no_db_valid

@@ -1,6 +1,0 @@
-use Rattle.std.proofs.Common.{ℕ, ◌<◌}
-use Rattle.ct_model.specs.Cuts.{IsCut}
-use Rattle.ct_model.proofs.names.is_two_names.Given as goal
-
-abbrev pub invariant-loop-at : goal.invariant-loop-at
-invariant-loop-at l = (k : ℕ) → k < l.at → IsCut l.name k → ⊥

@@ -1,0 +1,12 @@
+pub mod Carrying
+pub mod Fitting
+pub mod Following
+pub mod InTurn
+pub mod Keeping
+pub mod Moving
+pub mod NetKeys
+pub mod NetTelling
+pub mod Rises
+pub mod Somewhere
+pub mod Staying
+pub mod Validity
