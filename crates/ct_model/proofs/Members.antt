@@ -1,19 +1,12 @@
 -- What holds of each member of a list, or of each member and every later one, where lists are filtered, joined and mapped.
 use Rattle.std.proofs.Common.{◌≡◌, Bool, true, false, cond, if◌then◌else◌, List, [], ◌∷◌, ◌++◌, map, filter, refl, sym}
 use Rattle.std.specs.List.{AllByRecursion}
+use Rattle.ct_types.proofs.Lists.{all_append}
 use Rattle.ct_model.specs.Lists.{EachToLater}
 
 pub all_weaken : {X : Type 0} (P Q : X → Type 0) → ((x : X) → P x → Q x) → (xs : List X) → AllByRecursion P xs → AllByRecursion Q xs
 all_weaken P Q weaken [] all = tt
 all_weaken P Q weaken (x ∷ xs) all = (weaken x all.0, all_weaken P Q weaken xs all.1)
-
-pub all_everywhere : {X : Type 0} (P : X → Type 0) → ((x : X) → P x) → (xs : List X) → AllByRecursion P xs
-all_everywhere P each [] = tt
-all_everywhere P each (x ∷ xs) = (each x, all_everywhere P each xs)
-
-pub all_append : {X : Type 0} (P : X → Type 0) (xs ys : List X) → AllByRecursion P xs → AllByRecursion P ys → AllByRecursion P (xs ++ ys)
-all_append P [] ys p q = q
-all_append P (x ∷ xs) ys p q = (p.0, all_append P xs ys p.1 q)
 
 pub all_map : {X Y : Type 0} (P : X → Type 0) (Q : Y → Type 0) (f : X → Y) → ((x : X) → P x → Q (f x)) → (xs : List X) → AllByRecursion P xs
     → AllByRecursion Q (map f xs)
@@ -44,11 +37,6 @@ pub each_map : {X Y : Type 0} (R : X → X → Type 0) (S : Y → Y → Type 0) 
     → EachToLater R xs → EachToLater S (map f xs)
 each_map R S f keeps [] each = tt
 each_map R S f keeps (x ∷ xs) each = (all_map (R x) (S (f x)) f (keeps x) xs each.0, each_map R S f keeps xs each.1)
-
-pub all_join : {X : Type 0} (P Q R : X → Type 0) → ((x : X) → P x → Q x → R x) → (xs : List X) → AllByRecursion P xs → AllByRecursion Q xs
-    → AllByRecursion R xs
-all_join P Q R join [] ps qs = tt
-all_join P Q R join (x ∷ xs) ps qs = (join x ps.0 qs.0, all_join P Q R join xs ps.1 qs.1)
 
 -- one more member at the end, or none
 pub all_added : {X : Type 0} (P : X → Type 0) (adds : Bool) (xs : List X) (x : X) → AllByRecursion P xs → (adds ≡ true → P x)

@@ -13,7 +13,8 @@ use Rattle.ct_types.specs.declared.schema.Schema.{Schema}
 use Rattle.ct_model.specs.Schemas.{RowFits}
 use Rattle.ct_model.specs.Tables.{key_of, rows_with}
 use Rattle.ct_model.specs.Valid.{AreRising}
-use Rattle.ct_model.proofs.Members.{all_weaken, all_everywhere, all_append, all_filter, each_filter, each_append}
+use Rattle.ct_types.proofs.Lists.{all_everywhere, all_append}
+use Rattle.ct_model.proofs.Members.{all_weaken, all_filter, each_filter, each_append}
 
 pub less_of : (o : Ordering) → is_lt o ≡ true → o ≡ Less
 less_of Less e = refl

@@ -14,7 +14,8 @@ use Rattle.ct_model.specs.Applies.{WriteFits, WritesApply, IsRaise, ActApplies}
 use Rattle.ct_model.specs.Apply.{written, tracked_as, with_min, truncated, raised, tables_after, keep_after}
 use Rattle.ct_model.specs.Tables.{rows_with, table_of}
 use Rattle.ct_model.specs.Valid.{AreNumbered, IsTrackedValid, IsTableValid}
-use Rattle.ct_model.proofs.Members.{all_weaken, all_append, all_map, all_join}
+use Rattle.ct_types.proofs.Lists.{all_append, all_join}
+use Rattle.ct_model.proofs.Members.{all_weaken, all_map}
 use Rattle.ct_model.proofs.Rising.{rows_rise, rows_fit}
 use Rattle.ct_model_laws.proofs.Fitting.{written_row}
 use Rattle.ct_model_laws.proofs.Following.{numbered_map, written_schema}

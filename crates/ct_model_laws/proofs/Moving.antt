@@ -22,7 +22,8 @@ use Rattle.ct_model.specs.Applies.{WriteFits, WritesApply, MinRises, IsRaise, Ac
 use Rattle.ct_model.specs.Apply.{written, tracked_as, with_min, truncated, raised, tables_after, change_of, changes_of}
 use Rattle.ct_model.specs.Tables.{key_of, rows_with, row_at, table_of}
 use Rattle.ct_model.specs.Valid.{AreNumbered}
-use Rattle.ct_model.proofs.Members.{all_weaken, all_everywhere}
+use Rattle.ct_types.proofs.Lists.{all_everywhere}
+use Rattle.ct_model.proofs.Members.{all_weaken}
 use Rattle.ct_model_laws.proofs.Fitting.{written_row}
 use Rattle.ct_model_laws.proofs.Following.{numbered_map, written_schema, written_tracked, after_writes, after_writes_schema, after_writes_tracked, after_raises, after_raises_schema, raised_schema, truncation_keeps, tracked_as_schema, fold_of_maps}
 use Rattle.ct_model_laws.proofs.Keeping.{each_found}

@@ -17,7 +17,8 @@ use Rattle.ct_model.specs.declared.db.Db.{Db}
 use Rattle.ct_model.specs.declared.db.Table.{Table}
 use Rattle.ct_model.specs.Net.{dated_in, window, with_key, keys_of, last_of, row_of, net_rows, net_tracked, net}
 use Rattle.ct_model.specs.Tables.{table_of}
-use Rattle.ct_model.proofs.Members.{all_everywhere, all_filter}
+use Rattle.ct_types.proofs.Lists.{all_everywhere}
+use Rattle.ct_model.proofs.Members.{all_filter}
 use Rattle.ct_model.proofs.Rising.{equal_of}
 use Rattle.ct_model_laws.proofs.Somewhere.{Somewhere, some_constant, some_append_left, some_append_right, some_map, some_from_map, some_filter, some_from_filter, some_flat_map, some_from_flat_map, some_filter_map, some_from_filter_map, contains_from_some, some_from_contains}
 

@@ -21,7 +21,8 @@ use Rattle.ct_model.specs.Net.{changes_above, dated_in, floor_of, has_insert, is
 use Rattle.ct_model.specs.Tables.{table_of}
 use Rattle.ct_model_laws.specs.Tells.{NamesAbove, HasInsert, IsToldBy, Tells, AreTold}
 use Rattle.ct_model.proofs.Found.{found_id}
-use Rattle.ct_model.proofs.Members.{all_weaken, all_everywhere, all_filter, each_filter, each_append}
+use Rattle.ct_types.proofs.Lists.{all_everywhere}
+use Rattle.ct_model.proofs.Members.{all_weaken, all_filter, each_filter, each_append}
 use Rattle.ct_model_laws.proofs.NetKeys.{HasAbove, IsOf, HasKey, dated_has, dated_tells, rows_have, rows_tell}
 use Rattle.ct_model.proofs.Rising.{less_of, equal_of, greater_of, turned}
 use Rattle.ct_model_laws.proofs.Somewhere.{Somewhere, some_weaken, some_map, some_from_map, some_flat_map, some_from_flat_map, contains_from_some, some_from_contains}

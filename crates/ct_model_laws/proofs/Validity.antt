@@ -11,7 +11,8 @@ use Rattle.ct_model.specs.Applies.{ActApplies, IsNewXdes, XdesApplies, Applies}
 use Rattle.ct_model.specs.Apply.{apply, kept_of, keep_after, tables_after}
 use Rattle.ct_model.specs.Lists.{EachToLater}
 use Rattle.ct_model.specs.Valid.{IsKeepValid, ComesBefore, IsValid}
-use Rattle.ct_model.proofs.Members.{all_weaken, all_join, all_added, each_added}
+use Rattle.ct_types.proofs.Lists.{all_join}
+use Rattle.ct_model.proofs.Members.{all_weaken, all_added, each_added}
 use Rattle.ct_model_laws.proofs.Rises.{version_rises, drawn_rises}
 use Rattle.ct_model_laws.proofs.Following.{TablesFollow, tables_follow}
 use Rattle.ct_model_laws.proofs.Keeping.{tables_keep}

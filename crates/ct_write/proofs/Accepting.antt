@@ -14,7 +14,7 @@ use Rattle.ct_model.specs.Apply.{written}
 use Rattle.ct_model.specs.Lists.{EachToLater}
 use Rattle.ct_model.specs.Tables.{has_that_key, has_row, rows_with, table_of}
 use Rattle.ct_model.proofs.Found.{some_and_weaken, found_map}
-use Rattle.ct_model.proofs.Members.{all_join}
+use Rattle.ct_types.proofs.Lists.{all_join}
 use Rattle.ct_model.proofs.Rising.{IsAt}
 use Rattle.ct_model.proofs.RowAt.{row_stays}
 use Rattle.ct_write.specs.Laws.{rows_after}

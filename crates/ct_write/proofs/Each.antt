@@ -5,7 +5,7 @@ use Rattle.std.specs.List.{AllByRecursion}
 use Rattle.ct_types.specs.declared.bound.BoundExpr.{BoundExpr}
 use Rattle.ct_types.specs.declared.value.Row.{Row}
 use Rattle.ct_types.specs.declared.refusal.Refusal.{Refusal}
-use Rattle.ct_model.proofs.Members.{all_append}
+use Rattle.ct_types.proofs.Lists.{all_append}
 use Rattle.ct_types.specs.Answers.{Answer, ◌>>=◌, Gives, each}
 use Rattle.ct_write.specs.Steps.{in_turn}
 use Rattle.ct_expr.specs.Meaning.{World, holds}

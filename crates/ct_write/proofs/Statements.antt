@@ -19,7 +19,8 @@ use Rattle.ct_model.specs.Lists.{EachToLater}
 use Rattle.ct_model.specs.Schemas.{IsSchema, IsKey, RowFits}
 use Rattle.ct_model.specs.Tables.{catalogued, key_of, has_row, has_masks, table_of}
 use Rattle.ct_model.specs.Valid.{AreRising, MaskFits, ContextFits}
-use Rattle.ct_model.proofs.Members.{all_weaken, all_everywhere, all_map, all_join, each_map}
+use Rattle.ct_types.proofs.Lists.{all_everywhere, all_join}
+use Rattle.ct_model.proofs.Members.{all_weaken, all_map, each_map}
 use Rattle.ct_expr.specs.Meaning.{World, on, value}
 use Rattle.ct_write.specs.declared.changes.Changed.{Changed}
 use Rattle.ct_write.specs.Duplicates.{duplicate}
