@@ -23,7 +23,8 @@ use Rattle.ct_bind_expr.specs.Places.{of_kind}
 use Rattle.ct_bind_expr.specs.Walk.{walk}
 use Rattle.ct_bind_definition.specs.Definitions.{create, enable, disable, alter_database, settings, defaults, tracked_count, schema_of, first_rules, key_names, defined_column, key_id, is_in_sys}
 use Rattle.ct_bind.specs.Sources.{condition}
-use Rattle.ct_bind.proofs.Few.{found_has}
+use Rattle.ct_types.proofs.Lists.{all_found}
+use Rattle.ct_types.proofs.AnswersTaken.{some_or}
 use Rattle.ct_bind_names.specs.Names.{same, table_name, last_part}
 use Rattle.ct_bind_expr.specs.declared.place.Place.{Place}
 use Rattle.ct_bind.specs.declared.writes.Target.{Target}
@@ -40,21 +41,16 @@ use Rattle.ct_types.specs.declared.stmt.WriteStmt.{WriteStmt}
 use Rattle.ct_types.specs.declared.stmt.WriteStmt.TheVariants as write
 use Rattle.ct_bind_names.specs.Numbers.{column_type}
 use Rattle.ct_bind.specs.Writes.{target, target_from, table_target, is_set, is_key, set_target, set_of, update_change, updated_name, row_named, context_of, update, insert, insert_change, insert_targets, tuple_of, delete, delete_change, write_of}
-use Rattle.ct_types.proofs.AnswersKept.{Kept, ok_kept, err_kept, then_kept, after_kept, found_kept}
+use Rattle.ct_types.proofs.AnswersKept.{Kept, ok_kept, err_kept, then_kept, after_kept, met_kept, found_kept, each_after_kept}
 
 abbrev Narrow : ℕ → Type 0
 Narrow id = (0 < id) × (id ≤ 64)
-
-found_narrow : (b : Bool) (id : ℕ) (it other : Target) (rest : Option Target)
-    → Narrow it.column → (rest ≡ Some other → Narrow other.column) → cond b (Some it) rest ≡ Some other → Narrow other.column
-found_narrow true id it other rest here later e = let same_one : it ≡ other = cc in subst (λ t. Narrow t.column) same_one here
-found_narrow false id it other rest here later e = later e
 
 target_narrow : (name : List ℕ) (id : ℕ) (columns : List Column) (it : Target) → 0 < id → id + length columns ≤ 65 → target_from name id columns ≡ Some it → Narrow it.column
 unfolding target_from
 target_narrow name id [] it low high e = absurd cc
 target_narrow name id (column ∷ more) it low high e =
-    found_narrow (same column.name name) id (target id (kind_of_type column.kind)) it (target_from name (id + 1) more) (low, omega arith) (target_narrow name (id + 1) more it (omega arith) (omega arith)) e
+    some_or (λ (it : Target). Narrow it.column) (same column.name name) (target id (kind_of_type column.kind)) it (target_from name (id + 1) more) (low, omega arith) (target_narrow name (id + 1) more it (omega arith) (omega arith)) e
 
 table_narrow : (table : Schema) (name : List ℕ) → length table.columns ≤ 64 → Kept (λ it. Narrow it.column) (table_target table name)
 unfolding table_target
@@ -65,12 +61,6 @@ unfolding set_target
 set_target_narrow table before name few =
     then_kept (λ it. Narrow it.column) (λ it. Narrow it.column) (table_target table name) _ (table_narrow table name few)
     (λ it narrow. after_kept (λ it. Narrow it.column) (demand (not (is_set name before)) (Ambiguous name)) _ (λ _. after_kept (λ it. Narrow it.column) (demand (not (is_key table it.column)) (KeyUpdate name)) _ (λ _. ok_kept (λ it. Narrow it.column) it narrow)))
-
-each_after_kept : {A B : Type 0} (R : B → Type 0) (step : List A → A → Answer B) (before all : List A) → ((before : List A) (a : A) → Kept R (step before a)) → Kept (AllByRecursion R) (each_after step before all)
-each_after_kept R step before [] go = ok_kept (AllByRecursion R) [] tt
-each_after_kept R step before (a ∷ more) go =
-    then_kept R (AllByRecursion R) (step before a) _ (go before a)
-    (λ b here. then_kept (AllByRecursion R) (AllByRecursion R) (each_after step (before ++ a ∷ []) more) _ (each_after_kept R step (before ++ a ∷ []) more go) (λ made rest. ok_kept (AllByRecursion R) (b ∷ made) (here, rest)))
 
 ids_narrow : (sets : List BoundSet) → AllByRecursion (λ set. Narrow set.column) sets → AllByRecursion Narrow (map (λ set. set.column) sets)
 ids_narrow [] all = tt
@@ -87,14 +77,14 @@ module _ (tables : List Catalogued) (variables : List Variable) where
   unfolding update_change
   change_narrow table place sets filter few =
       then_kept (AllByRecursion (λ set. Narrow set.column)) ChangeKeepsLimits (each_after (set_of tables variables table place) [] sets) _
-      (each_after_kept (λ set. Narrow set.column) (set_of tables variables table place) [] sets (λ before it. set_narrow table place before it few))
+      (each_after_kept (λ set. Narrow set.column) (set_of tables variables table place) (λ before it. set_narrow table place before it few) [] sets)
       (λ sets all. after_kept ChangeKeepsLimits (optional (condition tables variables place) filter) _ (λ filter. ok_kept ChangeKeepsLimits _ (All-from_recursion Narrow _ (ids_narrow sets all))))
 
   existing_few : (name : ObjectName) → HaveFewColumns tables → Kept (λ table. length table.schema.columns ≤ 64) (existing_table tables name)
   unfolding existing_table table_named
   existing_few name few =
       found_kept (λ table. length table.schema.columns ≤ 64) (find (λ table. same table.schema.name (table_name name)) tables) _
-      (λ table e. found_has (λ table. length table.schema.columns ≤ 64) (λ table. same table.schema.name (table_name name)) tables table few e)
+      (λ table e. all_found (λ table. length table.schema.columns ≤ 64) (λ table. same table.schema.name (table_name name)) tables table few e)
 
   abbrev WriteKeeps : BoundWrite → Type 0
   WriteKeeps write = ChangeKeepsLimits write.change
@@ -126,14 +116,10 @@ schema_length id name columns key =
     (λ own. after_kept (λ schema. length schema.columns ≡ length columns) (demand (not (is_in_sys name)) (BadTable 6)) _
     (λ _. ok_kept (λ schema. length schema.columns ≡ length columns) _ same))))
 
-demand_says : (test : Bool) (refusal : Refusal) → Kept (λ _. test ≡ true) (demand test refusal)
-demand_says true refusal = ok_kept (λ _. true ≡ true) tt refl
-demand_says false refusal = err_kept (λ _. false ≡ true) refusal
-
 create_keeps : (tables : List Catalogued) (name : ObjectName) (columns : List ColumnDef) (key : Option (List (List ℕ))) → Kept KeepsLimits (create tables name columns key)
 unfolding create
 create_keeps tables name columns key =
-    then_kept (λ _. nat_le (length columns) 64 ≡ true) KeepsLimits (demand (nat_le (length columns) 64) (TooMany 64)) _ (demand_says (nat_le (length columns) 64) (TooMany 64))
+    then_kept (λ _. nat_le (length columns) 64 ≡ true) KeepsLimits (demand (nat_le (length columns) 64) (TooMany 64)) _ (met_kept (nat_le (length columns) 64) (TooMany 64))
     (λ _ few. after_kept KeepsLimits (demand (nat_lt (length tables) 256) (TooMany 256)) _
     (λ _. after_kept KeepsLimits (demand (not (is_some (table_named tables (table_name name)))) (Exists (table_name name))) _
     (λ _. then_kept (λ schema. length schema.columns ≡ length columns) KeepsLimits (schema_of (length tables + 1) (table_name name) columns key) _

@@ -6,7 +6,6 @@ pub mod Chains
 pub mod Versions
 pub mod Columns
 pub mod Walks
-pub mod Lists
 pub mod Operands
 pub mod Writing
 pub mod Sourcing

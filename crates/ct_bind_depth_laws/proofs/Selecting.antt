@@ -25,7 +25,7 @@ use Rattle.ct_bind_expr.specs.Walk.{walk}
 use Rattle.ct_bind.specs.Sources.{condition}
 use Rattle.ct_bind.specs.Queries.{item, columns_from, all_columns, columns_of, is_empty, item_name, order_place, plan_of, one_item, bound_item, item_by, items_of, order_by, from_of, parts_of, select}
 use Rattle.ct_types.proofs.AnswersKept.{Kept, here_kept, ok_kept, err_kept, then_kept, after_kept, demand_kept}
-use Rattle.ct_bind_kind_laws.proofs.Lists.{all_append, all_front, all_back, all_mapped}
+use Rattle.ct_types.proofs.Lists.{all_append, all_front, all_back, all_mapped}
 use Rattle.ct_bind_depth_laws.specs.Depth.{bound_depth_of}
 use Rattle.ct_bind_depth_laws.specs.Statements.{if_given, from_expressions, item_expressions, select_expressions, bound_source_expressions, bound_select_expressions}
 use Rattle.ct_bind_depth_laws.proofs.Given.{each_given}

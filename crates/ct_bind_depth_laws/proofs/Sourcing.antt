@@ -31,7 +31,7 @@ use Rattle.ct_bind_expr.specs.Walk.{walk}
 use Rattle.ct_bind.specs.Sources.{shape, shown_columns, changes_columns, version_columns, system_columns, system_source, source_name, unique, sourced, system_sourced, plain_sourced, table_by, table_source, no_source, alone, pair, join_of, condition, changes_source, version_source, one_source, joined_on, applied, joined_with, joined}
 use Rattle.ct_bind.specs.Queries.{from_of}
 use Rattle.ct_types.proofs.AnswersKept.{Kept, ok_kept, then_kept, after_kept, demand_kept}
-use Rattle.ct_bind_kind_laws.proofs.Lists.{all_front, all_back}
+use Rattle.ct_types.proofs.Lists.{all_front, all_back}
 use Rattle.ct_bind_depth_laws.specs.Statements.{if_given, source_expressions, join_expressions, from_expressions, bound_source_expressions}
 use Rattle.ct_bind_depth_laws.proofs.Operators.{NoDeeper}
 use Rattle.ct_bind_depth_laws.proofs.Chains.{NoneDeeper}

@@ -9,8 +9,7 @@ use Rattle.ct_types.specs.declared.catalogue.Catalogued.{Catalogued}
 use Rattle.ct_types.specs.declared.catalogue.Variable.{Variable}
 use Rattle.ct_types.specs.declared.expr.Expr.{Expr, roll-Expr, map-Expr}
 use Rattle.ct_types.specs.declared.expr.Expr.TheOpen as e
-use Rattle.ct_types.specs.declared.expr.Expr.TheOpen.{Expr-F, RowVersion-F, Scalar-F, Term-F}
-use Rattle.ct_types.specs.declared.expr.Expr.TheFolds.{map-RowVersion, map-Scalar, map-Term, ind-Expr}
+use Rattle.ct_types.specs.declared.expr.Expr.TheOpen.{Expr-F}
 use Rattle.ct_types.specs.declared.expr.RowVersion.{RowVersion, roll-RowVersion}
 use Rattle.ct_types.specs.declared.expr.Scalar.{Scalar, roll-Scalar}
 use Rattle.ct_types.specs.declared.expr.Term.{Term, roll-Term}
@@ -24,9 +23,10 @@ use Rattle.ct_bind_expr.specs.declared.place.Place.{Place}
 use Rattle.ct_bind_expr.specs.Places.{typed}
 use Rattle.ct_bind_expr.specs.Versions.{Walk, version_of}
 use Rattle.ct_bind_expr.specs.Walk as spec
-use Rattle.ct_bind_expr.specs.Walk.{VersionWalk, TermWalk, walk, version_walk, scalar_walk, term_walk, expr_rule, chain, sum, sum_typed}
+use Rattle.ct_bind_expr.specs.Walk.{VersionWalk, TermWalk, walk, version_walk, scalar_walk, term_walk, chain, sum, sum_typed}
 use Rattle.ct_bind_expr.proofs.Arms.{come}
 use Rattle.ct_bind_expr.proofs.Arms as arms
+use Rattle.ct_bind_expr.proofs.Forms.{Known, Form, parts, version_parts, scalar_parts, term_parts, by_forms, form_walk}
 use Rattle.ct_bind_expr.proofs.Opened as opened
 use Rattle.ct_types.proofs.AnswersKept.{Kept, ok_kept, then_kept, after_kept}
 use Rattle.ct_bind_depth_laws.specs.Depth.{deepest, expr_depth, depth_of, bound_depth_of}
@@ -58,54 +58,42 @@ module _ (tables : List Catalogued) (variables : List Variable) (place : Place) 
   abbrev OfTerm : Term → Type 0
   OfTerm x = TermBounded (term_depth_of x) place (term_walk tables variables x)
 
-  -- parts, each with what is known of it
-  abbrev E : Type 0
-  E = (x : Expr) × OfExpr x
+  -- parts, without what is known of them
+  abbrev exprs : List (Known OfExpr) → List Expr
+  exprs all = map (λ (p : Known OfExpr). p.0) all
 
-  abbrev R : Type 0
-  R = (x : RowVersion) × OfRowVersion x
+  abbrev terms : List (Known OfTerm) → List Term
+  terms all = map (λ (p : Known OfTerm). p.0) all
 
-  abbrev S : Type 0
-  S = (x : Scalar) × OfScalar x
-
-  abbrev T : Type 0
-  T = (x : Term) × OfTerm x
-
-  abbrev exprs : List E → List Expr
-  exprs parts = map (λ (p : E). p.0) parts
-
-  abbrev terms : List T → List Term
-  terms parts = map (λ (p : T). p.0) parts
-
-  all_bounded : (n : ℕ) (parts : List E) → deepest (map depth_of (exprs parts)) ≤ n → AllBounded n place (map (walk tables variables) (exprs parts))
+  all_bounded : (n : ℕ) (all : List (Known OfExpr)) → deepest (map depth_of (exprs all)) ≤ n → AllBounded n place (map (walk tables variables) (exprs all))
   all_bounded n [] whole = tt
-  all_bounded n (part ∷ parts) whole =
+  all_bounded n (part ∷ all) whole =
       let here : depth_of part.0 ≤ n = omega arith in
-      let rest : deepest (map depth_of (exprs parts)) ≤ n = omega arith in
-      (raised (depth_of part.0) n (come tables variables place part.0) here part.1, all_bounded n parts rest)
+      let rest : deepest (map depth_of (exprs all)) ≤ n = omega arith in
+      (raised (depth_of part.0) n (come tables variables place part.0) here part.1, all_bounded n all rest)
 
-  all_terms : (n : ℕ) (parts : List T) → deepest (map term_depth_of (terms parts)) ≤ n → AllByRecursion (TermBounded n place) (map (term_walk tables variables) (terms parts))
+  all_terms : (n : ℕ) (all : List (Known OfTerm)) → deepest (map term_depth_of (terms all)) ≤ n → AllByRecursion (TermBounded n place) (map (term_walk tables variables) (terms all))
   all_terms n [] whole = tt
-  all_terms n (part ∷ parts) whole =
+  all_terms n (part ∷ all) whole =
       let here : term_depth_of part.0 ≤ n = omega arith in
-      let rest : deepest (map term_depth_of (terms parts)) ≤ n = omega arith in
-      (raised (term_depth_of part.0) n ((term_walk tables variables part.0).1 place) here part.1, all_terms n parts rest)
+      let rest : deepest (map term_depth_of (terms all)) ≤ n = omega arith in
+      (raised (term_depth_of part.0) n ((term_walk tables variables part.0).1 place) here part.1, all_terms n all rest)
 
   -- ---- forms of one operand, of two, of three, of a chain
 
-  of_one : (rule : Typed → Answer Typed) → ((n : ℕ) (it : Typed) → TypedNoDeeper n it → Bounded (1 + n) (rule it)) → (part : E) → Bounded (1 + depth_of part.0) (come tables variables place part.0 >>= rule)
+  of_one : (rule : Typed → Answer Typed) → ((n : ℕ) (it : Typed) → TypedNoDeeper n it → Bounded (1 + n) (rule it)) → (part : Known OfExpr) → Bounded (1 + depth_of part.0) (come tables variables place part.0 >>= rule)
   of_one rule kept part =
       then_kept (TypedNoDeeper (depth_of part.0)) (TypedNoDeeper (1 + depth_of part.0)) (come tables variables place part.0) rule part.1 (kept (depth_of part.0))
 
   both_of : (rule : Typed → Typed → Answer Typed) → ((n : ℕ) (left right : Typed) → TypedNoDeeper n left → TypedNoDeeper n right → Bounded (1 + n) (rule left right))
-      → (left right : E) → Bounded (1 + max (depth_of left.0) (depth_of right.0)) (spec.two place (walk tables variables left.0) (walk tables variables right.0) >>= (λ both. rule both.0 both.1))
+      → (left right : Known OfExpr) → Bounded (1 + max (depth_of left.0) (depth_of right.0)) (spec.two place (walk tables variables left.0) (walk tables variables right.0) >>= (λ both. rule both.0 both.1))
   both_of rule kept left right =
       let n : ℕ = max (depth_of left.0) (depth_of right.0) in
       of_two n rule (kept n) place (walk tables variables left.0) (walk tables variables right.0)
       (raised (depth_of left.0) n (come tables variables place left.0) (le-max_left (depth_of left.0) (depth_of right.0)) left.1)
       (raised (depth_of right.0) n (come tables variables place right.0) (le-max_right (depth_of left.0) (depth_of right.0)) right.1)
 
-  all_of : (x y z : E) → Bounded (1 + max (depth_of x.0) (max (depth_of y.0) (depth_of z.0))) (spec.property place (walk tables variables x.0) (walk tables variables y.0) (walk tables variables z.0))
+  all_of : (x y z : Known OfExpr) → Bounded (1 + max (depth_of x.0) (max (depth_of y.0) (depth_of z.0))) (spec.property place (walk tables variables x.0) (walk tables variables y.0) (walk tables variables z.0))
   all_of x y z =
       let n : ℕ = max (depth_of x.0) (max (depth_of y.0) (depth_of z.0)) in
       let of_x : depth_of x.0 ≤ n = omega arith in
@@ -115,14 +103,14 @@ module _ (tables : List Catalogued) (variables : List Variable) (place : Place) 
       (raised (depth_of x.0) n (come tables variables place x.0) of_x x.1) (raised (depth_of y.0) n (come tables variables place y.0) of_y y.1) (raised (depth_of z.0) n (come tables variables place z.0) of_z z.1)
 
   of_chain : (wanted : Kind) (make : List BoundExpr → BoundExpr) → ((made : List BoundExpr) → bound_depth_of (make made) ≡ 1 + deepest (map bound_depth_of made))
-      → (parts : List E) → Bounded (1 + deepest (map depth_of (exprs parts))) (chain wanted place (map (walk tables variables) (exprs parts)) >>= (λ made. Ok (typed (make made) wanted)))
-  of_chain wanted make makes parts =
-      let n : ℕ = deepest (map depth_of (exprs parts)) in
-      then_kept (NoneDeeper n) (TypedNoDeeper (1 + n)) (chain wanted place (map (walk tables variables) (exprs parts))) _
-      (chain_kept n place wanted (map (walk tables variables) (exprs parts)) (all_bounded n parts (le_refl n)))
+      → (all : List (Known OfExpr)) → Bounded (1 + deepest (map depth_of (exprs all))) (chain wanted place (map (walk tables variables) (exprs all)) >>= (λ made. Ok (typed (make made) wanted)))
+  of_chain wanted make makes all =
+      let n : ℕ = deepest (map depth_of (exprs all)) in
+      then_kept (NoneDeeper n) (TypedNoDeeper (1 + n)) (chain wanted place (map (walk tables variables) (exprs all))) _
+      (chain_kept n place wanted (map (walk tables variables) (exprs all)) (all_bounded n all (le_refl n)))
       (λ made all. ok_kept (TypedNoDeeper (1 + n)) (typed (make made) wanted) (chain_deeper n made (bound_depth_of (make made)) (makes made) all))
 
-  of_sum : (first : E) (more : List T)
+  of_sum : (first : Known OfExpr) (more : List (Known OfTerm))
       → Bounded (1 + max (depth_of first.0) (deepest (map term_depth_of (terms more)))) (sum place (walk tables variables first.0) (map (term_walk tables variables) (terms more)) >>= (λ operands. Ok (sum_typed operands.0 operands.1)))
   of_sum first more =
       let least : ℕ = depth_of first.0 in
@@ -134,17 +122,11 @@ module _ (tables : List Catalogued) (variables : List Variable) (place : Place) 
       (λ made all. ok_kept (TypedNoDeeper (1 + n)) (sum_typed made.0 made.1)
       (two_deeper n (bound_depth_of made.0) (deepest (map bound_term_depth_of made.1)) (bound_depth_of (bound.Sum made.0 made.1)) (of_Sum made.0 made.1) all.0 (deepest_least bound_term_depth_of n made.1 all.1)))
 
-  -- a form whose parts stand in their places
-  abbrev rule_at : Expr-F Expr RowVersion Scalar Term → Answer Typed
-  rule_at x = expr_rule tables variables (map-Expr Expr RowVersion Scalar Term Walk VersionWalk Walk TermWalk (walk tables variables) (version_walk tables variables) (scalar_walk tables variables) (term_walk tables variables) x) place
-
+  -- how deep a form is, by its parts
   abbrev depth_at : Expr-F Expr RowVersion Scalar Term → ℕ
   depth_at x = expr_depth (map-Expr Expr RowVersion Scalar Term ℕ ℕ ℕ ℕ depth_of version_depth_of scalar_depth_of term_depth_of x)
 
-  abbrev parts_of : Expr-F E R S T → Expr-F Expr RowVersion Scalar Term
-  parts_of y = map-Expr E R S T Expr RowVersion Scalar Term (λ p. p.0) (λ p. p.0) (λ p. p.0) (λ p. p.0) y
-
-  form : (y : Expr-F E R S T) → Bounded (depth_at (parts_of y)) (rule_at (parts_of y))
+  form : (y : Form OfExpr OfRowVersion OfScalar OfTerm) → Bounded (depth_at (parts OfExpr OfRowVersion OfScalar OfTerm y)) (form_walk tables variables (parts OfExpr OfRowVersion OfScalar OfTerm y) place)
   form e.Null = ok_kept (TypedNoDeeper 0) (typed bound.Null Null) (flat _ of_Null)
   form (e.Number digits) = number_kept digits
   form (e.Text text) = ok_kept (TypedNoDeeper 0) (spec.text_typed text) (flat _ (of_Text text))
@@ -170,13 +152,13 @@ module _ (tables : List Catalogued) (variables : List Variable) (place : Place) 
 
   -- ---- the parts of forms
 
-  of_version : (v : RowVersion) (parts : List E) → exprs parts ≡ v.values → OfRowVersion v
-  of_version v parts are =
+  of_version : (v : RowVersion) (all : List (Known OfExpr)) → exprs all ≡ v.values → OfRowVersion v
+  of_version v all are =
       let n : ℕ = version_depth_of v in
       let same : version_depth_of v ≡ deepest (map depth_of v.values) = opened_version v in
       let below : deepest (map depth_of v.values) ≤ n = omega arith in
       let bounded : AllBounded n place (map (walk tables variables) v.values) =
-      subst (λ (es : List Expr). AllBounded n place (map (walk tables variables) es)) are (all_bounded n parts (subst (λ (es : List Expr). deepest (map depth_of es) ≤ n) (sym are) below)) in
+      subst (λ (es : List Expr). AllBounded n place (map (walk tables variables) es)) are (all_bounded n all (subst (λ (es : List Expr). deepest (map depth_of es) ≤ n) (sym are) below)) in
       subst (λ (w : VersionWalk). Kept (VersionNoDeeper n) (w place)) (sym (opened.opened_version tables variables v))
       (after_kept (VersionNoDeeper n) (tracked_table tables v.table) _
       (λ table. then_kept (λ version. NoneDeeper n version.values) (VersionNoDeeper n) (version_of table.schema v.columns (map (walk tables variables) v.values) place) _
@@ -196,29 +178,14 @@ module _ (tables : List Catalogued) (variables : List Variable) (place : Place) 
       subst (λ (m : ℕ). TermBounded m place (term_walk tables variables t)) (sym (opened_term t))
       (subst (λ (w : TermWalk). TermBounded (depth_of t.value) place w) (sym (opened.opened_term tables variables t)) known)
 
-  abbrev version_parts : RowVersion-F E R S T → RowVersion-F Expr RowVersion Scalar Term
-  version_parts y = map-RowVersion E R S T Expr RowVersion Scalar Term (λ p. p.0) (λ p. p.0) (λ p. p.0) (λ p. p.0) y
-
-  abbrev scalar_parts : Scalar-F E R S T → Scalar-F Expr RowVersion Scalar Term
-  scalar_parts y = map-Scalar E R S T Expr RowVersion Scalar Term (λ p. p.0) (λ p. p.0) (λ p. p.0) (λ p. p.0) y
-
-  abbrev term_parts : Term-F E R S T → Term-F Expr RowVersion Scalar Term
-  term_parts y = map-Term E R S T Expr RowVersion Scalar Term (λ p. p.0) (λ p. p.0) (λ p. p.0) (λ p. p.0) y
-
-  abbrev OfLayer : Expr-F Expr RowVersion Scalar Term → Type 0
-  OfLayer x = Bounded (depth_at x) (rule_at x)
-
-  rolled : (x : Expr-F Expr RowVersion Scalar Term) → OfLayer x → OfExpr (roll-Expr x)
-  rolled x known =
-      subst (λ (m : ℕ). Bounded m (come tables variables place (roll-Expr x))) (sym (layer x))
-      (subst (Bounded (depth_at x)) (sym (arms.layer tables variables place x)) known)
+  rolled : (y : Form OfExpr OfRowVersion OfScalar OfTerm) → OfExpr (roll-Expr (parts OfExpr OfRowVersion OfScalar OfTerm y))
+  rolled y =
+      let x : Expr-F Expr RowVersion Scalar Term = parts OfExpr OfRowVersion OfScalar OfTerm y in
+      subst (λ (m : ℕ). Bounded m (come tables variables place (roll-Expr x))) (sym (layer x)) (subst (Bounded (depth_at x)) (sym (arms.layer tables variables place x)) (form y))
 
   pub every : (x : Expr) → OfExpr x
-  every = ind-Expr OfExpr OfRowVersion OfScalar OfTerm
-      (λ x y is. rolled x (subst OfLayer is (form y)))
-      (λ x y is. subst (λ x. OfRowVersion (roll-RowVersion x)) is (of_version (roll-RowVersion (version_parts y)) y.values refl))
-      (λ x y is. subst (λ x. OfScalar (roll-Scalar x)) is (of_scalar (roll-Scalar (scalar_parts y)) y.version.1))
-      (λ x y is. subst (λ x. OfTerm (roll-Term x)) is (of_term (roll-Term (term_parts y)) y.value.1))
+  every = by_forms OfExpr OfRowVersion OfScalar OfTerm rolled (λ y. of_version (roll-RowVersion (version_parts OfExpr OfRowVersion OfScalar OfTerm y)) y.values refl)
+      (λ y. of_scalar (roll-Scalar (scalar_parts OfExpr OfRowVersion OfScalar OfTerm y)) y.version.1) (λ y. of_term (roll-Term (term_parts OfExpr OfRowVersion OfScalar OfTerm y)) y.value.1)
 
 pub walked_are_no_deeper : WalkedAreNoDeeper
 walked_are_no_deeper tables variables place x it came = (every tables variables place x).holds it came

@@ -25,10 +25,9 @@ use Rattle.ct_bind_expr.specs.Walk.{walk}
 use Rattle.ct_bind.specs.Sources.{condition}
 use Rattle.ct_bind.specs.Writes.{insert_targets, set_target, updated_name, row_named, context_of, tuple_of, insert_change, set_of, update_change, delete_change, write_to, insert, update, delete, write_of}
 use Rattle.ct_types.proofs.AnswersKept.{Kept, ok_kept, then_kept, after_kept, demand_kept}
-use Rattle.ct_bind_kind_laws.proofs.Lists.{all_append, all_front, all_back, all_mapped}
+use Rattle.ct_types.proofs.Lists.{all_append, all_front, all_back, all_mapped, all_joined, all_parts}
 use Rattle.ct_bind_depth_laws.specs.Statements.{write_expressions, change_expressions}
 use Rattle.ct_bind_depth_laws.proofs.Given.{each_given, each_after_given}
-use Rattle.ct_bind_depth_laws.proofs.Lists.{all_joined, all_parts}
 use Rattle.ct_bind_depth_laws.proofs.Operators.{NoDeeper}
 use Rattle.ct_bind_depth_laws.proofs.Chains.{NoneDeeper}
 use Rattle.ct_bind_depth_laws.proofs.Versions.{tuple_kept}

@@ -4,3 +4,4 @@ pub mod Opened
 pub mod Parts
 pub mod Values
 pub mod Walked
+pub mod Forms

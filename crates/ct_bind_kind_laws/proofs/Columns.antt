@@ -24,7 +24,7 @@ use Rattle.ct_bind_expr.specs.declared.place.Place.{Place}
 use Rattle.ct_bind_expr.specs.Places.{typed, spot, named, named_in, named_of, column_at, only, is_output, output_at, plain_by, plain_column, column_of_source, column_in, column}
 use Rattle.ct_bind_kind_laws.specs.Laws.{row_kinds, StandsIn, Shows}
 use Rattle.ct_types.proofs.AnswersTaken.{steps, same_Ok, there, ok_or, some_or}
-use Rattle.ct_bind_kind_laws.proofs.Lists.{at_end, all_append, all_one, all_found}
+use Rattle.ct_types.proofs.Lists.{at_end, all_append, all_one, all_found}
 use Rattle.ct_bind_kind_laws.proofs.Operators.{Kinded, Answered, layer}
 
 -- ---- the columns of sources

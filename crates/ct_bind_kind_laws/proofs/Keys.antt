@@ -2,15 +2,12 @@
 use Rattle.std.proofs.Common.{◌≡◌, ℕ, ◌+◌, Bool, true, false, cond, codes, List, [], ◌∷◌, ◌++◌, map, find, length, if◌then◌else◌, Option, Some, None, Ok, refl, sym, ap, ◌∙◌}
 use Rattle.std.specs.List.{AllByRecursion, IsDistinct, filter_map, cons_option, slice_get}
 use Rattle.std.specs.Option.{option_map, option_and_then, IsSome}
-use Rattle.std.specs.Str.{bytes_eq}
 use Rattle.std.proofs.lemmas.Option.{slice_get-map, same_Some}
-use Rattle.std.proofs.lemmas.Slice.Eq.{bytes_eq-Decides}
 use Rattle.ct_types.specs.declared.bound.VersionColumn.{VersionColumn}
 use Rattle.ct_types.specs.declared.bound.VersionColumn.TheVariants.{Version, Context, Key}
 use Rattle.ct_types.specs.declared.schema.Column.{Column}
 use Rattle.ct_types.specs.declared.schema.Schema.{Schema}
 use Rattle.ct_types.specs.Answers.{Answer}
-use Rattle.ct_model.specs.Names.{folded}
 use Rattle.ct_bind_kinds.specs.declared.kind.Kind.{Kind}
 use Rattle.ct_bind_kinds.specs.declared.kind.Kind.TheVariants.{Number, Bytes}
 use Rattle.ct_bind_kinds.specs.WellFormed.{column_of, column_kind, key_kinds, version_column_kind}
@@ -18,23 +15,9 @@ use Rattle.ct_bind_names.specs.Names.{same}
 use Rattle.ct_bind_expr.specs.Versions.{key_columns, kind_of_column, key_column_from, version_column}
 use Rattle.ct_bind_kind_laws.specs.Laws.{HasKey}
 use Rattle.ct_types.proofs.AnswersTaken.{ok_or}
-use Rattle.ct_bind_kind_laws.proofs.Lists.{all_mapped, all_zip}
+use Rattle.ct_bind_names.proofs.Same.{same_first, same_second}
+use Rattle.ct_types.proofs.Lists.{all_mapped, all_join}
 use Rattle.ct_bind_kind_laws.proofs.Columns.{stands_here, one_further, behind_one}
-
--- ---- names that are the same
-
-same_folded : (a b : List ℕ) → same a b ≡ true → folded a ≡ folded b
-unfolding same
-same_folded a b e = (bytes_eq-Decides (folded a) (folded b)).0 e
-
--- what is the same as one of two such names is the same as the other
-pub same_first : (a b c : List ℕ) → same a b ≡ true → same a c ≡ same b c
-unfolding same
-same_first a b c alike = ap (λ name. bytes_eq name (folded c)) (same_folded a b alike)
-
-same_second : (a b c : List ℕ) → same a b ≡ true → same c a ≡ same c b
-unfolding same
-same_second a b c alike = ap (bytes_eq (folded c)) (same_folded a b alike)
 
 -- ---- the columns of the key by their ids
 
@@ -102,7 +85,7 @@ unfolding IsDistinct
 each_means [] distinct = tt
 each_means (first ∷ rest) distinct = (
   (λ name alike. ap (λ b. cond b (Some first) (find (λ c. same c.name name) rest)) alike),
-  all_zip (λ column. same first.name column.name ≡ false) (Means rest) (Means (first ∷ rest))
+  all_join (λ column. same first.name column.name ≡ false) (Means rest) (Means (first ∷ rest))
       (λ column apart means name alike. next_means (λ n. same n name) first rest column (sym (same_second column.name name first.name alike) ∙ apart) (means name alike))
       rest (all_mapped (λ (column : Column). column.name) (λ name. same first.name name ≡ false) rest distinct.0) (each_means rest distinct.1),
 )

@@ -1,4 +1,3 @@
-pub mod Lists
 pub mod Operators
 pub mod Chains
 pub mod Columns

@@ -9,8 +9,8 @@ use Rattle.ct_types.specs.Answers.{Answer, each_after}
 use Rattle.ct_model.proofs.Members.{all_weaken, all_map}
 use Rattle.ct_bind_kinds.specs.WellFormed.{column_of}
 use Rattle.ct_bind_names.specs.Names.{same}
-use Rattle.ct_bind_kind_laws.proofs.Lists.{all_front, all_back, none_passes}
-use Rattle.ct_bind_kind_laws.proofs.Keys.{same_first}
+use Rattle.ct_types.proofs.Lists.{all_front, all_back, none_passes}
+use Rattle.ct_bind_names.proofs.Same.{same_first}
 use Rattle.ct_types.proofs.AnswersKept.{Kept, ok_kept, then_kept}
 
 -- the table has a column of this id, and this is its name, or is not

@@ -27,7 +27,7 @@ use Rattle.ct_bind.specs.Queries.{item, columns_from, all_columns, columns_of, i
 use Rattle.ct_bind_kind_laws.specs.Laws.{Sound, Shows, StandsIn, row_kinds}
 use Rattle.ct_bind_kind_laws.specs.Statements.{IsCondition, scope_of}
 use Rattle.ct_bind_kind_laws.specs.Queries.{JoinFits, AreValues, IsSelect}
-use Rattle.ct_bind_kind_laws.proofs.Lists.{all_append, all_front, all_back}
+use Rattle.ct_types.proofs.Lists.{all_append, all_front, all_back}
 use Rattle.ct_bind_kind_laws.proofs.Operators.{Kinded, value_operand}
 use Rattle.ct_bind_kind_laws.proofs.Columns.{stands_here, one_further, behind_one, next_source, this_source, source_further, spot_kinded}
 use Rattle.ct_types.proofs.AnswersKept.{Kept, here_kept, ok_kept, err_kept, then_kept, demand_kept, optional_kept, each_kept, two_kept}

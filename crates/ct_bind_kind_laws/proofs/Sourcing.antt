@@ -46,7 +46,8 @@ use Rattle.ct_bind.specs.Queries.{from_of}
 use Rattle.ct_bind_kind_laws.specs.Laws.{Sound, Shows, row_kinds}
 use Rattle.ct_bind_kind_laws.specs.Statements.{IsCondition, tracked_of, table_row, scope_of}
 use Rattle.ct_bind_kind_laws.specs.Queries.{changes_row, version_row, seen_by, source_row, shown_row}
-use Rattle.ct_bind_kind_laws.proofs.Lists.{all_append}
+use Rattle.ct_types.proofs.Lists.{all_append}
+use Rattle.ct_bind_kinds.proofs.Types.{type_value}
 use Rattle.ct_bind_kind_laws.proofs.Operators.{AllAnswered, fits}
 use Rattle.ct_bind_kind_laws.proofs.Versions.{IsThere, IsThereTracked, existing, tracked, version_kinded}
 use Rattle.ct_types.proofs.AnswersKept.{Kept, ok_kept, then_kept, after_kept, demand_kept}
@@ -67,12 +68,6 @@ right_row (left ∷ more) = left_row more
 
 abbrev pub AreValueKinds : List Kind → Type 0
 AreValueKinds kinds = AllByRecursion (λ kind. is_value kind ≡ true) kinds
-
-type_value : (t : ColType) → is_value (kind_of_type t) ≡ true
-type_value type.Int = refl
-type_value type.BigInt = refl
-type_value (type.NVarChar most) = refl
-type_value (type.VarBinary most) = refl
 
 types_are_values : (columns : List Column) → AreValueKinds (map (λ column. kind_of_type column.kind) columns)
 types_are_values [] = tt

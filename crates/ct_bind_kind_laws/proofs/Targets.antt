@@ -19,7 +19,7 @@ use Rattle.ct_bind_kinds.specs.WellFormed.{Scope, column_of, column_kind, kind_o
 use Rattle.ct_bind_names.specs.Names.{same, is_among}
 use Rattle.ct_bind.specs.Writes.{target, targets_from, target_from, table_target, listed_target, insert_targets, is_key, is_set, set_target}
 use Rattle.ct_bind_kind_laws.specs.Statements.{HasColumn, IsColumnList, FitsColumn}
-use Rattle.ct_bind_kind_laws.proofs.Lists.{none_passes}
+use Rattle.ct_types.proofs.Lists.{none_passes}
 use Rattle.ct_bind_kind_laws.proofs.Operators.{fits}
 use Rattle.ct_bind_kind_laws.proofs.Columns.{stands_here, behind_one}
 use Rattle.ct_types.proofs.AnswersKept.{Kept, ok_kept, then_kept, after_kept, demand_kept, or_kept, each_after_kept}

@@ -37,7 +37,7 @@ use Rattle.ct_bind_kind_laws.specs.Laws.{HasKey, Sound}
 use Rattle.ct_bind_kind_laws.specs.Statements.{catalogued_of, tracked_of}
 use Rattle.ct_types.proofs.AnswersTaken.{steps, passed, same_Ok, there}
 use Rattle.ct_types.proofs.AnswersKept.{Kept, ok_kept, then_kept, demand_kept}
-use Rattle.ct_bind_kind_laws.proofs.Lists.{all_found, all_mapped, all_pass, all_zip}
+use Rattle.ct_types.proofs.Lists.{all_found, all_mapped, all_pass, all_join}
 use Rattle.ct_bind_kind_laws.proofs.Operators.{Kinded, Answered, AllAnswered, layer, fits, fits_operand}
 use Rattle.ct_bind_kind_laws.proofs.Columns.{stands_here, one_further, behind_one}
 use Rattle.ct_bind_kind_laws.proofs.Keys.{kinds_of_key, column_shown, Means, each_means}
@@ -158,7 +158,7 @@ module _ (s : Scope) (key : List Column) where
   unfolding in_key_order missing
   in_order_suit names made distinct given none =
       all_suit (value_of names made) key
-      (all_zip (Means key) (λ column. is_among column.name names ≡ true) (λ column. Suits (value_of names made column) column) (column_suits names made given) key (each_means key distinct)
+      (all_join (Means key) (λ column. is_among column.name names ≡ true) (λ column. Suits (value_of names made column) column) (column_suits names made given) key (each_means key distinct)
       (all_pass (λ column. is_among column.name names) key none))
 
 -- ---- CHANGETABLE(VERSION ..)

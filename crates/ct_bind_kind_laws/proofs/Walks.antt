@@ -6,13 +6,11 @@ use Rattle.ct_types.specs.declared.bound.BoundExpr.TheVariants as bound
 use Rattle.ct_types.specs.declared.bound.BoundExpr.TheOpen as b
 use Rattle.ct_types.specs.declared.catalogue.Catalogued.{Catalogued}
 use Rattle.ct_types.specs.declared.catalogue.Variable.{Variable}
-use Rattle.ct_types.specs.declared.expr.Expr.{Expr, map-Expr}
+use Rattle.ct_types.specs.declared.expr.Expr.{Expr}
 use Rattle.ct_types.specs.declared.expr.Expr.TheOpen as e
-use Rattle.ct_types.specs.declared.expr.Expr.TheOpen.{Expr-F, RowVersion-F, Scalar-F, Term-F}
-use Rattle.ct_types.specs.declared.expr.Expr.TheFolds.{map-RowVersion, map-Scalar, map-Term, ind-Expr}
-use Rattle.ct_types.specs.declared.expr.RowVersion.{RowVersion, roll-RowVersion}
-use Rattle.ct_types.specs.declared.expr.Scalar.{Scalar, roll-Scalar}
-use Rattle.ct_types.specs.declared.expr.Term.{Term, roll-Term}
+use Rattle.ct_types.specs.declared.expr.RowVersion.{RowVersion}
+use Rattle.ct_types.specs.declared.expr.Scalar.{Scalar}
+use Rattle.ct_types.specs.declared.expr.Term.{Term}
 use Rattle.ct_bind_kinds.specs.declared.kind.Kind.{Kind}
 use Rattle.ct_bind_kinds.specs.declared.kind.Kind.TheVariants.{Number, Condition, Null}
 use Rattle.ct_bind_kinds.specs.WellFormed.{Scope, kind_of, is_of, when}
@@ -23,9 +21,10 @@ use Rattle.ct_bind_expr.specs.declared.place.Place.{Place}
 use Rattle.ct_bind_expr.specs.Places.{typed}
 use Rattle.ct_bind_expr.specs.Versions.{Walk}
 use Rattle.ct_bind_expr.specs.Walk as spec
-use Rattle.ct_bind_expr.specs.Walk.{VersionWalk, TermWalk, walk, version_walk, scalar_walk, term_walk, expr_rule, two, property, chain, sum, sum_typed, number_typed}
+use Rattle.ct_bind_expr.specs.Walk.{TermWalk, walk, term_walk, two, property, chain, sum, sum_typed, number_typed}
 use Rattle.ct_bind_expr.proofs.Arms.{come}
 use Rattle.ct_bind_expr.proofs.Arms as arms
+use Rattle.ct_bind_expr.proofs.Forms.{Known, Form, parts, by_forms, form_walk}
 use Rattle.ct_bind_expr.proofs.Opened.{opened_term}
 use Rattle.ct_bind_expr.proofs.Walked.{chain_at, scalar_at}
 use Rattle.ct_bind_kind_laws.specs.Laws.{Sound, Shows, WalkedAreWellFormed}
@@ -90,47 +89,29 @@ module _ (tables : List Catalogued) (variables : List Variable) (columns : List 
   abbrev OfTerm : Term → Type 0
   OfTerm x = OfExpr x.value
 
-  -- parts, each with what is known of it
-  abbrev E : Type 0
-  E = (x : Expr) × OfExpr x
-
-  abbrev R : Type 0
-  R = (x : RowVersion) × OfRowVersion x
-
-  abbrev S : Type 0
-  S = (x : Scalar) × OfScalar x
-
-  abbrev T : Type 0
-  T = (x : Term) × OfTerm x
-
-  all_answered : (parts : List E) → AllAnswered here (map (come tables variables place) (map (λ (p : E). p.0) parts))
+  all_answered : (all : List (Known OfExpr)) → AllAnswered here (map (come tables variables place) (map (λ (p : Known OfExpr). p.0) all))
   all_answered [] = tt
-  all_answered (part ∷ parts) = (part.1, all_answered parts)
+  all_answered (part ∷ more) = (part.1, all_answered more)
 
-  all_terms : (parts : List T) → AllTerms here place (map (term_walk tables variables) (map (λ (p : T). p.0) parts))
+  all_terms : (all : List (Known OfTerm)) → AllTerms here place (map (term_walk tables variables) (map (λ (p : Known OfTerm). p.0) all))
   all_terms [] = tt
-  all_terms (part ∷ parts) = (subst (λ (w : TermWalk). Answered here (w.1 place)) (sym (opened_term tables variables part.0)) part.1, all_terms parts)
+  all_terms (part ∷ more) = (subst (λ (w : TermWalk). Answered here (w.1 place)) (sym (opened_term tables variables part.0)) part.1, all_terms more)
 
   of_chain : (wanted : Kind) (make : List BoundExpr → BoundExpr) → ((made : List BoundExpr) → kind_of here (make made) ≡ when (list_all (fits wanted) (map (kind_of here) made)) (Some wanted))
-      → (parts : List E) → Answered here (chain wanted place (map (walk tables variables) (map (λ (p : E). p.0) parts)) >>= (λ made. Ok (typed (make made) wanted)))
-  of_chain wanted make makes parts = mapped here (chain wanted place (map (walk tables variables) (map (λ (p : E). p.0) parts))) (λ made. typed (make made) wanted) (λ made is.
-      makes made ∙ ap (λ t. when t (Some wanted)) (chain_fits here wanted (map (come tables variables place) (map (λ (p : E). p.0) parts)) made (all_answered parts)
-      (sym (chain_at (walk tables variables) wanted place (map (λ (p : E). p.0) parts)) ∙ is)))
+      → (all : List (Known OfExpr)) → Answered here (chain wanted place (map (walk tables variables) (map (λ (p : Known OfExpr). p.0) all)) >>= (λ made. Ok (typed (make made) wanted)))
+  of_chain wanted make makes all = mapped here (chain wanted place (map (walk tables variables) (map (λ (p : Known OfExpr). p.0) all))) (λ made. typed (make made) wanted) (λ made is.
+      makes made ∙ ap (λ t. when t (Some wanted)) (chain_fits here wanted (map (come tables variables place) (map (λ (p : Known OfExpr). p.0) all)) made (all_answered all)
+      (sym (chain_at (walk tables variables) wanted place (map (λ (p : Known OfExpr). p.0) all)) ∙ is)))
 
-  of_sum : (first : E) (more : List T) → Answered here (sum place (walk tables variables first.0) (map (term_walk tables variables) (map (λ (p : T). p.0) more)) >>= (λ operands. Ok (sum_typed operands.0 operands.1)))
-  of_sum first more = mapped here (sum place (walk tables variables first.0) (map (term_walk tables variables) (map (λ (p : T). p.0) more))) (λ operands. sum_typed operands.0 operands.1) (λ made is.
-      let fit = sum_fits here place (walk tables variables first.0) (map (term_walk tables variables) (map (λ (p : T). p.0) more)) made first.1 (all_terms more) is in
+  of_sum : (first : Known OfExpr) (more : List (Known OfTerm)) → Answered here (sum place (walk tables variables first.0) (map (term_walk tables variables) (map (λ (p : Known OfTerm). p.0) more)) >>= (λ operands. Ok (sum_typed operands.0 operands.1)))
+  of_sum first more = mapped here (sum place (walk tables variables first.0) (map (term_walk tables variables) (map (λ (p : Known OfTerm). p.0) more))) (λ operands. sum_typed operands.0 operands.1) (λ made is.
+      let fit = sum_fits here place (walk tables variables first.0) (map (term_walk tables variables) (map (λ (p : Known OfTerm). p.0) more)) made first.1 (all_terms more) is in
       ap (kind_of here) (sym (bound.rolls-Sum made.0 made.1)) ∙ layer here (b.Sum made.0 made.1)
       ∙ ap (λ t. when (t && list_all (is_of Number) (map (term_of here) made.1)) (Some Number)) fit.0 ∙ ap (λ t. when t (Some Number)) fit.1)
 
-  -- a form whose parts stand in their places
-  abbrev rule_at : Expr-F Expr RowVersion Scalar Term → Answer Typed
-  rule_at x = expr_rule tables variables (map-Expr Expr RowVersion Scalar Term Walk VersionWalk Walk TermWalk (walk tables variables) (version_walk tables variables) (scalar_walk tables variables) (term_walk tables variables) x) place
+  -- ---- the forms
 
-  abbrev parts_of : Expr-F E R S T → Expr-F Expr RowVersion Scalar Term
-  parts_of y = map-Expr E R S T Expr RowVersion Scalar Term (λ p. p.0) (λ p. p.0) (λ p. p.0) (λ p. p.0) y
-
-  form : (y : Expr-F E R S T) → Answered here (rule_at (parts_of y))
+  form : (y : Form OfExpr OfRowVersion OfScalar OfTerm) → Answered here (form_walk tables variables (parts OfExpr OfRowVersion OfScalar OfTerm y) place)
   unfolding spec.number_literal spec.variable
   form e.Null = settled here (typed bound.Null Null) (ap (kind_of here) (sym bound.rolls-Null) ∙ layer here b.Null)
   form (e.Number digits) = mapped here (literal digits) number_typed (λ n is. ap (kind_of here) (sym (bound.rolls-Number n)) ∙ layer here (b.Number n))
@@ -155,30 +136,8 @@ module _ (tables : List Catalogued) (variables : List Variable) (columns : List 
   form (e.And operands) = of_chain Condition bound.And (λ made. ap (kind_of here) (sym (bound.rolls-And made)) ∙ layer here (b.And made)) operands
   form (e.Or operands) = of_chain Condition bound.Or (λ made. ap (kind_of here) (sym (bound.rolls-Or made)) ∙ layer here (b.Or made)) operands
 
-  abbrev version_parts : RowVersion-F E R S T → RowVersion-F Expr RowVersion Scalar Term
-  version_parts y = map-RowVersion E R S T Expr RowVersion Scalar Term (λ p. p.0) (λ p. p.0) (λ p. p.0) (λ p. p.0) y
-
-  abbrev scalar_parts : Scalar-F E R S T → Scalar-F Expr RowVersion Scalar Term
-  scalar_parts y = map-Scalar E R S T Expr RowVersion Scalar Term (λ p. p.0) (λ p. p.0) (λ p. p.0) (λ p. p.0) y
-
-  abbrev term_parts : Term-F E R S T → Term-F Expr RowVersion Scalar Term
-  term_parts y = map-Term E R S T Expr RowVersion Scalar Term (λ p. p.0) (λ p. p.0) (λ p. p.0) (λ p. p.0) y
-
-  version : (y : RowVersion-F E R S T) → OfRowVersion (roll-RowVersion (version_parts y))
-  version y = all_answered y.values
-
-  scalar : (y : Scalar-F E R S T) → OfScalar (roll-Scalar (scalar_parts y))
-  scalar y = y.version.1
-
-  summand : (y : Term-F E R S T) → OfTerm (roll-Term (term_parts y))
-  summand y = y.value.1
-
   pub every : (x : Expr) → OfExpr x
-  every = ind-Expr OfExpr OfRowVersion OfScalar OfTerm
-      (λ x y is. subst (Answered here) (sym (arms.layer tables variables place x)) (subst (λ x. Answered here (rule_at x)) is (form y)))
-      (λ x y is. subst (λ x. OfRowVersion (roll-RowVersion x)) is (version y))
-      (λ x y is. subst (λ x. OfScalar (roll-Scalar x)) is (scalar y))
-      (λ x y is. subst (λ x. OfTerm (roll-Term x)) is (summand y))
+  every = by_forms OfExpr OfRowVersion OfScalar OfTerm (λ y. subst (Answered here) (sym (arms.layer tables variables place (parts OfExpr OfRowVersion OfScalar OfTerm y))) (form y)) (λ y. all_answered y.values) (λ y. y.version.1) (λ y. y.value.1)
 
 pub walked_are_well_formed : WalkedAreWellFormed
 walked_are_well_formed tables variables columns place x it sound shows came = every tables variables columns place sound shows x it came

@@ -33,7 +33,9 @@ use Rattle.ct_bind_expr.specs.Walk as expr
 use Rattle.ct_bind_expr.specs.Walk.{TermWalk, two, both_of_kind, chain, further_term, sum}
 use Rattle.ct_bind_refusal_laws.specs.Mentions.{Mention, OfTable, OfTracked, OfVariable, OfNumber, OfTuple, of_table, of_tracked, of_statement}
 use Rattle.ct_bind_refusal_laws.specs.Causes.{HasNoTable, HasUntracked, HasNoVariable, HasCause}
-use Rattle.ct_types.proofs.AnswersCaused.{Caused, ok_caused, err_caused, then_caused, after_caused, came_from, each_after_length, demand_caused, met_caused, cond_caused, or_caused, found_caused, each_after_caused, of_all}
+use Rattle.ct_types.proofs.AnswersCaused.{Caused, ok_caused, err_caused, then_caused, after_caused, demand_caused, met_caused, cond_caused, or_caused, found_caused, each_after_caused}
+use Rattle.ct_types.proofs.AnswersTaken.{steps, same_Ok, each_after_length}
+use Rattle.ct_types.proofs.Lists.{all_everywhere}
 
 -- no variable of the name was found, so none is declared
 undeclared_step : (found : Bool) (at : ℕ × ColType) (rest : Option (ℕ × ColType)) (more : Bool) → cond found (Some at) rest ≡ None → (rest ≡ None → more ≡ false) → (found || more) ≡ false
@@ -52,10 +54,9 @@ differ got wanted e same = let t : (got == wanted) ≡ true = eq-eqb got wanted 
 pub kinds_length : (key : List Column) (names : List (List ℕ)) (kinds : List Kind) → listed_kinds key names ≡ Ok kinds → length kinds ≡ length names
 unfolding listed_kinds
 kinds_length key names kinds e =
-    let made = came_from (each_after (listed_kind key) [] names) _ kinds e in
-    let last = came_from (none_missing (missing key names)) _ kinds made.2 in
-    let same : made.0 ≡ kinds = cc (last.2) in
-    ap length (sym same) ∙ each_after_length (listed_kind key) [] names made.0 made.1
+    let made = steps (each_after (listed_kind key) [] names) _ kinds e in
+    let last = steps (none_missing (missing key names)) _ kinds made.goes in
+    ap length (sym (same_Ok made.came kinds last.goes)) ∙ each_after_length (listed_kind key) [] names made.came made.is
 
 module _ (tables : List Catalogued) (variables : List Variable) (mentioned : List Mention) where
   -- the causes that need no more than the catalogue, the variables and what is mentioned
@@ -257,7 +258,7 @@ module _ (tables : List Catalogued) (variables : List Variable) (mentioned : Lis
   listed_kinds_explained : (key : List Column) (names : List (List ℕ)) → IsExplained (listed_kinds key names)
   unfolding listed_kinds
   listed_kinds_explained key names =
-      then_caused _ _ (each_after_caused (listed_kind key) [] names (of_all (λ name. (before : List (List ℕ)) → IsExplained (listed_kind key before name)) names (λ name before. listed_kind_explained key before name))) (λ _. then_caused _ _ (none_missing_explained (missing key names)) (λ _. ok_caused _))
+      then_caused _ _ (each_after_caused (listed_kind key) [] names (all_everywhere (λ name. (before : List (List ℕ)) → IsExplained (listed_kind key before name)) (λ name before. listed_kind_explained key before name) names)) (λ _. then_caused _ _ (none_missing_explained (missing key names)) (λ _. ok_caused _))
 
   pub version_of_explained : (table : Schema) (names : List (List ℕ)) (walks : List Walk) (place : Place) (count : ℕ) → length walks ≡ count
       → Contains mentioned (OfTuple (Some (length names)) count) → AllByRecursion ExplainedAt walks → IsExplained (version_of table names walks place)

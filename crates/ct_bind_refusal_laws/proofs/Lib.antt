@@ -7,6 +7,7 @@ pub mod Rules
 pub mod Definitions
 pub mod Refusals
 pub mod Binding
+pub mod Own
 pub mod Meets
 pub mod Mentioned
 pub mod Meeting

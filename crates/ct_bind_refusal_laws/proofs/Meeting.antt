@@ -41,7 +41,7 @@ use Rattle.ct_bind.specs.Queries.{one_item, bound_item, items_of, order_by, orde
 use Rattle.ct_bind.specs.Writes.{targets_from, listed_target, insert_targets, context_of, tuple_of, insert_change, set_target, set_of, update_change, delete_change}
 use Rattle.ct_bind_refusal_laws.specs.Mentions.{Mention, OfSource, OfTuple, of_tracked, of_each, mentions, version_mentions, of_tuple, of_optional, of_source, of_join, of_from, of_item, of_select}
 use Rattle.ct_bind_refusal_laws.specs.Causes.{Joins, HasTable, InsertsInto, IsNoSource, IsWanted}
-use Rattle.ct_types.proofs.AnswersCaused.{each_after_length}
+use Rattle.ct_types.proofs.AnswersTaken.{each_after_length}
 use Rattle.ct_bind_refusal_laws.proofs.Layers.{each_is, opened_version}
 use Rattle.ct_bind_refusal_laws.proofs.Mentioned.{walk_meets, walks_meet}
 use Rattle.ct_bind_refusal_laws.proofs.Passed.{Passed, anyway, also, first_passed, next_passed, both_passed, met_passed, or_passed}

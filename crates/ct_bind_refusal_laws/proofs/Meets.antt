@@ -2,7 +2,7 @@
 use Rattle.std.proofs.Common.{◌≡◌, ℕ, ◌+◌, Bool, true, false, ◌||◌, ◌==◌, List, [], ◌∷◌, ◌++◌, length, Option, Some, IsSome, is_some, cond, refl, sym, ◌∙◌, subst, eqb-true, arith}
 use Rattle.std.specs.List.{AllByRecursion}
 use Rattle.std.specs.Option.{IsSomeAnd}
-use Rattle.std.proofs.ByRecursion.{All-append}
+use Rattle.ct_types.proofs.Lists.{all_append}
 use Rattle.ct_types.specs.declared.catalogue.Catalogued.{Catalogued}
 use Rattle.ct_types.specs.declared.catalogue.Variable.{Variable}
 use Rattle.ct_types.specs.declared.expr.ObjectName.{ObjectName}
@@ -61,11 +61,11 @@ module _ (tables : List Catalogued) (variables : List Variable) (statement : Stm
 
   -- those of two parts
   pub joined : {A : Type 0} (some other : List Mention) (answer : Answer A) → Passed (AllMet some × AllMet other) answer → Meets (some ++ other) answer
-  joined some other answer passed = also answer (λ met. All-append IsMet some other met.0 met.1) passed
+  joined some other answer passed = also answer (λ met. all_append IsMet some other met.0 met.1) passed
 
   -- of the last part
   pub ended : {A : Type 0} (some : List Mention) (answer : Answer A) → Meets some answer → Meets (some ++ []) answer
-  ended some answer passed = also answer (λ met. All-append IsMet some [] met tt) passed
+  ended some answer passed = also answer (λ met. all_append IsMet some [] met tt) passed
 
   -- ---- numbers and look-ups
 
@@ -128,7 +128,7 @@ module _ (tables : List Catalogued) (variables : List Variable) (statement : Stm
 
   -- the first two, and those behind them
   three : {A : Type 0} (some other others : List Mention) (answer : Answer A) → Passed ((AllMet some × AllMet other) × AllMet others) answer → Meets (some ++ (other ++ others)) answer
-  three some other others answer passed = also answer (λ met. All-append IsMet some (other ++ others) met.0.0 (All-append IsMet other others met.0.1 met.1)) passed
+  three some other others answer passed = also answer (λ met. all_append IsMet some (other ++ others) met.0.0 (all_append IsMet other others met.0.1 met.1)) passed
 
   pub chain_meets : (wanted : Kind) (place : Place) (walks : List Walk) (said : List (List Mention)) → Pairs MeetsAt walks said → Meets (of_each said) (chain wanted place walks)
   unfolding chain

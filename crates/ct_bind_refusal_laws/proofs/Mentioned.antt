@@ -3,13 +3,12 @@ use Rattle.std.proofs.Common.{◌≡◌, List, [], ◌∷◌, ◌++◌, length, 
 use Rattle.std.proofs.lemmas.List.{length-map}
 use Rattle.ct_types.specs.declared.catalogue.Catalogued.{Catalogued}
 use Rattle.ct_types.specs.declared.catalogue.Variable.{Variable}
-use Rattle.ct_types.specs.declared.expr.Expr.{Expr, roll-Expr, map-Expr}
+use Rattle.ct_types.specs.declared.expr.Expr.{Expr, roll-Expr}
 use Rattle.ct_types.specs.declared.expr.Expr.TheOpen as e
 use Rattle.ct_types.specs.declared.expr.Expr.TheOpen.{Expr-F, RowVersion-F, Scalar-F, Term-F}
-use Rattle.ct_types.specs.declared.expr.Expr.TheFolds.{ind-Expr}
-use Rattle.ct_types.specs.declared.expr.RowVersion.{RowVersion, roll-RowVersion, map-RowVersion}
-use Rattle.ct_types.specs.declared.expr.Scalar.{Scalar, roll-Scalar, map-Scalar}
-use Rattle.ct_types.specs.declared.expr.Term.{Term, roll-Term, map-Term}
+use Rattle.ct_types.specs.declared.expr.RowVersion.{RowVersion, roll-RowVersion}
+use Rattle.ct_types.specs.declared.expr.Scalar.{Scalar, roll-Scalar}
+use Rattle.ct_types.specs.declared.expr.Term.{Term, roll-Term}
 use Rattle.ct_types.specs.declared.stmt.Stmt.{Stmt}
 use Rattle.ct_bind_kinds.specs.declared.kind.Kind.{Kind}
 use Rattle.ct_bind_kinds.specs.declared.kind.Kind.TheVariants.{Number, Condition}
@@ -17,7 +16,8 @@ use Rattle.ct_bind_expr.specs.declared.place.Place.{Place}
 use Rattle.ct_bind_expr.specs.Versions.{Walk}
 use Rattle.ct_bind_expr.specs.Walk.{VersionWalk, two, chain, walk, version_walk, scalar_walk, term_walk}
 use Rattle.ct_bind_refusal_laws.specs.Mentions.{Mention, OfTuple, of_tracked, of_each, mentions, version_mentions, scalar_mentions, term_mentions}
-use Rattle.ct_bind_refusal_laws.proofs.Layers.{form_mentions, version_form_mentions, scalar_form_mentions, term_form_mentions, said, version_said, scalar_said, term_said, form_walk, version_form_walk, scalar_form_walk, term_form_walk, walked, version_walked, scalar_walked, term_walked}
+use Rattle.ct_bind_expr.proofs.Forms.{Known, Form, VersionForm, ScalarForm, TermForm, parts, version_parts, scalar_parts, term_parts, by_forms, form_walk, version_form_walk, scalar_form_walk, term_form_walk, walked, version_walked, scalar_walked, term_walked}
+use Rattle.ct_bind_refusal_laws.proofs.Layers.{form_mentions, version_form_mentions, said, version_said, scalar_said, term_said}
 use Rattle.ct_bind_refusal_laws.proofs.Passed.{anyway, first_passed, both_passed}
 use Rattle.ct_bind_refusal_laws.proofs.Meets.{Pairs, Meets, MeetsAt, TermMeets, joined, number_meets, tracked_meets, variable_typed_meets, two_meets, property_meets, chain_meets, sum_meets, version_meets}
 
@@ -40,49 +40,24 @@ module _ (tables : List Catalogued) (variables : List Variable) (statement : Stm
   abbrev OfTerm : Term → Type 0
   OfTerm t = TermMeets tables variables statement (term_walk tables variables t) (term_mentions t)
 
-  -- parts, each with what is known of it
-  abbrev E : Type 0
-  E = (e : Expr) × OfExpr e
-
-  abbrev V : Type 0
-  V = (v : RowVersion) × OfVersion v
-
-  abbrev S : Type 0
-  S = (s : Scalar) × OfScalar s
-
-  abbrev T : Type 0
-  T = (t : Term) × OfTerm t
-
-  all_at : (parts : List E) → Pairs At (map (walk tables variables) (map (λ p. p.0) parts)) (map mentions (map (λ p. p.0) parts))
+  all_at : (parts : List (Known OfExpr)) → Pairs At (map (walk tables variables) (map (λ p. p.0) parts)) (map mentions (map (λ p. p.0) parts))
   all_at [] = tt
   all_at (part ∷ more) = (part.1, all_at more)
 
-  all_terms : (parts : List T) → Pairs (TermMeets tables variables statement) (map (term_walk tables variables) (map (λ p. p.0) parts)) (map term_mentions (map (λ p. p.0) parts))
+  all_terms : (parts : List (Known OfTerm)) → Pairs (TermMeets tables variables statement) (map (term_walk tables variables) (map (λ p. p.0) parts)) (map term_mentions (map (λ p. p.0) parts))
   all_terms [] = tt
   all_terms (part ∷ more) = (part.1, all_terms more)
 
   -- ---- the forms, whose parts stand in their places
 
-  abbrev parts_of : Expr-F E V S T → Expr-F Expr RowVersion Scalar Term
-  parts_of y = map-Expr E V S T Expr RowVersion Scalar Term (λ p. p.0) (λ p. p.0) (λ p. p.0) (λ p. p.0) y
-
-  abbrev version_parts : RowVersion-F E V S T → RowVersion-F Expr RowVersion Scalar Term
-  version_parts y = map-RowVersion E V S T Expr RowVersion Scalar Term (λ p. p.0) (λ p. p.0) (λ p. p.0) (λ p. p.0) y
-
-  abbrev scalar_parts : Scalar-F E V S T → Scalar-F Expr RowVersion Scalar Term
-  scalar_parts y = map-Scalar E V S T Expr RowVersion Scalar Term (λ p. p.0) (λ p. p.0) (λ p. p.0) (λ p. p.0) y
-
-  abbrev term_parts : Term-F E V S T → Term-F Expr RowVersion Scalar Term
-  term_parts y = map-Term E V S T Expr RowVersion Scalar Term (λ p. p.0) (λ p. p.0) (λ p. p.0) (λ p. p.0) y
-
-  both_at : (one other : E) (place : Place) → Meets tables variables statement (mentions one.0 ++ mentions other.0) (two place (walk tables variables one.0) (walk tables variables other.0))
+  both_at : (one other : Known OfExpr) (place : Place) → Meets tables variables statement (mentions one.0 ++ mentions other.0) (two place (walk tables variables one.0) (walk tables variables other.0))
   both_at one other place =
       joined tables variables statement (mentions one.0) (mentions other.0) _ (two_meets tables variables statement place (walk tables variables one.0) (walk tables variables other.0) (mentions one.0) (mentions other.0) one.1 other.1)
 
-  chain_at : (wanted : Kind) (parts : List E) (place : Place) → Meets tables variables statement (of_each (map mentions (map (λ p. p.0) parts))) (chain wanted place (map (walk tables variables) (map (λ p. p.0) parts)))
+  chain_at : (wanted : Kind) (parts : List (Known OfExpr)) (place : Place) → Meets tables variables statement (of_each (map mentions (map (λ p. p.0) parts))) (chain wanted place (map (walk tables variables) (map (λ p. p.0) parts)))
   chain_at wanted parts place = chain_meets tables variables statement wanted place (map (walk tables variables) (map (λ p. p.0) parts)) (map mentions (map (λ p. p.0) parts)) (all_at parts)
 
-  form_meets : (y : Expr-F E V S T) → At (form_walk tables variables (parts_of y)) (form_mentions (parts_of y))
+  form_meets : (y : Form OfExpr OfVersion OfScalar OfTerm) → At (form_walk tables variables (parts OfExpr OfVersion OfScalar OfTerm y)) (form_mentions (parts OfExpr OfVersion OfScalar OfTerm y))
   form_meets e.Null place = anyway _ tt
   form_meets (e.Number digits) place = number_meets tables variables statement digits
   form_meets (e.Text text) place = anyway _ tt
@@ -108,7 +83,7 @@ module _ (tables : List Catalogued) (variables : List Variable) (statement : Stm
   form_meets (e.And operands) place = first_passed _ _ (chain_at Condition operands place)
   form_meets (e.Or operands) place = first_passed _ _ (chain_at Condition operands place)
 
-  version_form_meets : (y : RowVersion-F E V S T) → VersionAt (version_form_walk tables variables (version_parts y)) (version_form_mentions (version_parts y))
+  version_form_meets : (y : VersionForm OfExpr OfVersion OfScalar OfTerm) → VersionAt (version_form_walk tables variables (version_parts OfExpr OfVersion OfScalar OfTerm y)) (version_form_mentions (version_parts OfExpr OfVersion OfScalar OfTerm y))
   version_form_meets y place =
       let walks : List Walk = map (walk tables variables) (map (λ p. p.0) y.values) in
       let all : List (List Mention) = map mentions (map (λ p. p.0) y.values) in
@@ -119,31 +94,31 @@ module _ (tables : List Catalogued) (variables : List Variable) (statement : Stm
 
   -- ---- one layer
 
-  expr_case : (x : Expr-F Expr RowVersion Scalar Term) (y : Expr-F E V S T) → parts_of y ≡ x → OfExpr (roll-Expr x)
-  expr_case x y is =
-      subst (λ w. At w (mentions (roll-Expr x))) (sym (walked tables variables x))
-      (subst (λ m. At (form_walk tables variables x) m) (sym (said x)) (subst (λ z. At (form_walk tables variables z) (form_mentions z)) is (form_meets y)))
+  expr_case : (y : Form OfExpr OfVersion OfScalar OfTerm) → OfExpr (roll-Expr (parts OfExpr OfVersion OfScalar OfTerm y))
+  expr_case y =
+      let x : Expr-F Expr RowVersion Scalar Term = parts OfExpr OfVersion OfScalar OfTerm y in
+      subst (λ w. At w (mentions (roll-Expr x))) (sym (walked tables variables x)) (subst (λ m. At (form_walk tables variables x) m) (sym (said x)) (form_meets y))
 
-  version_case : (x : RowVersion-F Expr RowVersion Scalar Term) (y : RowVersion-F E V S T) → version_parts y ≡ x → OfVersion (roll-RowVersion x)
-  version_case x y is =
+  version_case : (y : VersionForm OfExpr OfVersion OfScalar OfTerm) → OfVersion (roll-RowVersion (version_parts OfExpr OfVersion OfScalar OfTerm y))
+  version_case y =
+      let x : RowVersion-F Expr RowVersion Scalar Term = version_parts OfExpr OfVersion OfScalar OfTerm y in
       subst (λ w. VersionAt w (version_mentions (roll-RowVersion x))) (sym (version_walked tables variables x))
-      (subst (λ m. VersionAt (version_form_walk tables variables x) m) (sym (version_said x))
-      (subst (λ z. VersionAt (version_form_walk tables variables z) (version_form_mentions z)) is (version_form_meets y)))
+      (subst (λ m. VersionAt (version_form_walk tables variables x) m) (sym (version_said x)) (version_form_meets y))
 
-  scalar_case : (x : Scalar-F Expr RowVersion Scalar Term) (y : Scalar-F E V S T) → scalar_parts y ≡ x → OfScalar (roll-Scalar x)
-  scalar_case x y is =
+  scalar_case : (y : ScalarForm OfExpr OfVersion OfScalar OfTerm) → OfScalar (roll-Scalar (scalar_parts OfExpr OfVersion OfScalar OfTerm y))
+  scalar_case y =
+      let x : Scalar-F Expr RowVersion Scalar Term = scalar_parts OfExpr OfVersion OfScalar OfTerm y in
       subst (λ w. At w (scalar_mentions (roll-Scalar x))) (sym (scalar_walked tables variables x))
-      (subst (λ m. At (scalar_form_walk tables variables x) m) (sym (scalar_said x))
-      (subst (λ z. At (scalar_form_walk tables variables z) (scalar_form_mentions z)) is (λ place. first_passed _ _ (y.version.1 place))))
+      (subst (λ m. At (scalar_form_walk tables variables x) m) (sym (scalar_said x)) (λ place. first_passed _ _ (y.version.1 place)))
 
-  term_case : (x : Term-F Expr RowVersion Scalar Term) (y : Term-F E V S T) → term_parts y ≡ x → OfTerm (roll-Term x)
-  term_case x y is =
+  term_case : (y : TermForm OfExpr OfVersion OfScalar OfTerm) → OfTerm (roll-Term (term_parts OfExpr OfVersion OfScalar OfTerm y))
+  term_case y =
+      let x : Term-F Expr RowVersion Scalar Term = term_parts OfExpr OfVersion OfScalar OfTerm y in
       subst (λ w. TermMeets tables variables statement w (term_mentions (roll-Term x))) (sym (term_walked tables variables x))
-      (subst (λ m. TermMeets tables variables statement (term_form_walk tables variables x) m) (sym (term_said x))
-      (subst (λ z. TermMeets tables variables statement (term_form_walk tables variables z) (term_form_mentions z)) is y.value.1))
+      (subst (λ m. TermMeets tables variables statement (term_form_walk tables variables x) m) (sym (term_said x)) y.value.1)
 
   pub walk_meets : (e : Expr) → At (walk tables variables e) (mentions e)
-  walk_meets = ind-Expr OfExpr OfVersion OfScalar OfTerm expr_case version_case scalar_case term_case
+  walk_meets = by_forms OfExpr OfVersion OfScalar OfTerm expr_case version_case scalar_case term_case
 
   pub walks_meet : (values : List Expr) → Pairs At (map (walk tables variables) values) (map mentions values)
   walks_meet [] = tt

@@ -47,7 +47,9 @@ use Rattle.ct_bind.specs.Writes.{targets_from, target_from, is_set, is_key, tabl
 use Rattle.ct_bind_refusal_laws.specs.Mentions.{Mention, OfSource, OfTuple, of_tracked, of_each, mentions, version_mentions, of_values, of_tuple, of_optional, of_source, of_join, of_from, of_item, of_select, of_statement}
 use Rattle.ct_bind_refusal_laws.specs.Causes.{Joins, UpdatesFromAnother, InsertsMoreThan, InsertsInto, IsWanted, HasKeyColumn, SetsKey, HasCause}
 use Rattle.ct_bind_refusal_laws.proofs.Among.{Among, left, right, first, rest}
-use Rattle.ct_types.proofs.AnswersCaused.{Caused, ok_caused, err_caused, weaker, then_caused, after_caused, each_after_length, demand_caused, met_caused, cond_caused, or_caused, found_caused, each_caused, each_after_caused, of_all}
+use Rattle.ct_types.proofs.AnswersCaused.{Caused, ok_caused, err_caused, weaker, then_caused, after_caused, demand_caused, met_caused, cond_caused, or_caused, found_caused, each_caused, each_after_caused}
+use Rattle.ct_types.proofs.AnswersTaken.{each_after_length}
+use Rattle.ct_types.proofs.Lists.{all_everywhere}
 use Rattle.ct_bind_refusal_laws.proofs.Expressions.{IsExplained, widened, tracked_explained, of_kind_explained, any_value_explained, differ, values_explained, version_of_explained}
 use Rattle.ct_bind_refusal_laws.proofs.Layers.{each_is, opened_version}
 use Rattle.ct_bind_refusal_laws.proofs.Walked.{walk_explained, walks_explained}
@@ -270,7 +272,7 @@ module _ (tables : List Catalogued) (keep : Option Keep) (variables : List Varia
       tuples_fine _ (map (λ column. column.kind) (targets_from 1 table.columns)) None tuples many (subst (λ n. InsertsInto tables statement n) (sym (targets_length 1 table.columns)) into) says
   insert_change_fine table (Some names) tuples many into says =
       after_caused (each_after (listed_target table) [] names) _
-      (each_after_caused (listed_target table) [] names (of_all (λ name. (before : List (List ℕ)) → Fine (listed_target table before name)) names (λ name before. listed_fine table before name)))
+      (each_after_caused (listed_target table) [] names (all_everywhere (λ name. (before : List (List ℕ)) → Fine (listed_target table before name)) (λ name before. listed_fine table before name) names))
       (λ targets made. tuples_fine _ (map (λ column. column.kind) targets) (Some (length names)) tuples many
       (length-map targets (λ column. column.kind) ∙ each_after_length (listed_target table) [] names targets made) says)
 

@@ -14,7 +14,8 @@ use Rattle.ct_bind_names.specs.Numbers.{within, column_type}
 use Rattle.ct_bind_definition.specs.Definitions.{keys_written, is_there, is_repeated, has_clear_nulls, key_names, are_different, is_free_name, id_from, is_in_sys, first_rules, defined_column, key_id, schema_of}
 use Rattle.ct_bind_refusal_laws.specs.Causes.{has_length, is_one_column, rules}
 use Rattle.ct_bind_refusal_laws.proofs.Passed.{Passed, anyway, next_passed, met_passed}
-use Rattle.ct_types.proofs.AnswersCaused.{Caused, ok_caused, err_caused, weaker, then_caused, after_caused, demand_caused, met_caused, or_caused, came_from}
+use Rattle.ct_types.proofs.AnswersCaused.{Caused, ok_caused, err_caused, weaker, then_caused, after_caused, demand_caused, met_caused, or_caused}
+use Rattle.ct_types.proofs.AnswersTaken.{steps}
 
 -- ---- one rule
 
@@ -79,10 +80,10 @@ lengths_kept : (key : Option (List (List ℕ))) (columns : List ColumnDef) (made
 unfolding defined_column
 lengths_kept key [] made e = refl
 lengths_kept key (column ∷ more) made e =
-    let first = came_from (defined_column key column) (λ b. each (defined_column key) more >>= (λ all. Ok (b ∷ all))) made e in
-    let kind = came_from (column_type column.kind) _ first.0 first.1 in
-    let rest = came_from (each (defined_column key) more) (λ all. Ok (first.0 ∷ all)) made first.2 in
-    rw (length_kept column.kind kind.0 kind.1, lengths_kept key more rest.0 rest.1)
+    let first = steps (defined_column key column) (λ b. each (defined_column key) more >>= (λ all. Ok (b ∷ all))) made e in
+    let kind = steps (column_type column.kind) _ first.came first.is in
+    let rest = steps (each (defined_column key) more) (λ all. Ok (first.came ∷ all)) made first.goes in
+    rw (length_kept column.kind kind.came kind.is, lengths_kept key more rest.came rest.is)
 
 -- ---- the key
 

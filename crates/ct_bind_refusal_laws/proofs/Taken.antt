@@ -2,7 +2,7 @@
 use Rattle.std.proofs.Common.{◌≡◌, ℕ, Bool, true, not, List, [], ◌∷◌, ◌++◌, length, flat_map, find, Option, Some, None, ◌⊎◌, IsSome, IsNone, is_some, inl, inr, refl, sym, ap, subst}
 use Rattle.std.specs.Str.{bytes_eq}
 use Rattle.std.specs.Option.{option_map, IsSomeAnd}
-use Rattle.std.proofs.ByRecursion.{All-append}
+use Rattle.ct_types.proofs.Lists.{all_append}
 use Rattle.std.proofs.lemmas.Bool.{both_ways}
 use Rattle.std.proofs.lemmas.List.Elements.{All-from_recursion, All-contains}
 use Rattle.std.proofs.lemmas.Slice.Eq.{bytes_eq-Decides}
@@ -59,7 +59,7 @@ module _ (tables : List Catalogued) (keep : Option Keep) (variables : List Varia
       let it : Stmt = stmt.Write context (write.Insert table columns tuples) in
       let values : List Mention = flat_map (of_tuple (option_map length columns)) tuples in
       found_passed (table_named tables (table_name table)) (NoObject (table_name table)) _
-      (λ found is. also _ (λ met. All-append (IsMet tables variables it) (of_optional context) (of_table table ∷ values) met.0 (ap (λ o. is_some o) is, met.1))
+      (λ found is. also _ (λ met. all_append (IsMet tables variables it) (of_optional context) (of_table table ∷ values) met.0 (ap (λ o. is_some o) is, met.1))
       (both_passed _ _ (context_meets tables variables it context) (λ _ _. first_passed _ _ (insert_change_meets tables variables it found.schema columns tuples
       (λ wanted into. subst (λ o. IsSomeAnd o (λ (it : Catalogued). wanted ≡ length it.schema.columns)) is into)))))
 
@@ -77,8 +77,8 @@ module _ (tables : List Catalogued) (keep : Option Keep) (variables : List Varia
       let values : List Mention = flat_map (λ (set : SetColumn). mentions set.value) sets ++ of_optional filter in
       found_passed (table_named tables (table_name table)) (NoObject (table_name table)) _
       (λ found is. let there : HasTable tables (table_name table) = ap (λ o. is_some o) is in
-      also _ (λ met. All-append (IsMet tables variables it) (of_optional context) (of_table table ∷ (of_updated from ++ values)) met.1.0
-      (there, All-append (IsMet tables variables it) (of_updated from) values met.0 met.1.1))
+      also _ (λ met. all_append (IsMet tables variables it) (of_optional context) (of_table table ∷ (of_updated from ++ values)) met.1.0
+      (there, all_append (IsMet tables variables it) (of_updated from) values met.0 met.1.1))
       (both_passed _ _ (updated_meets it table from there)
       (λ row _. both_passed _ _ (context_meets tables variables it context) (λ _ _. first_passed _ _ (update_change_meets tables variables it found.schema _ sets filter)))))
 
@@ -87,7 +87,7 @@ module _ (tables : List Catalogued) (keep : Option Keep) (variables : List Varia
   unfolding writes.delete
   delete_meets context table filter =
       let it : Stmt = stmt.Write context (write.Delete table filter) in
-      also _ (λ met. All-append (IsMet tables variables it) (of_optional context) (of_table table ∷ of_optional filter) met.1.0 (met.0.0, met.1.1))
+      also _ (λ met. all_append (IsMet tables variables it) (of_optional context) (of_table table ∷ of_optional filter) met.1.0 (met.0.0, met.1.1))
       (both_passed _ _ (existing_meets tables variables it table)
       (λ found _. both_passed _ _ (context_meets tables variables it context) (λ _ _. first_passed _ _ (delete_change_meets tables variables it _ filter))))
 

@@ -57,20 +57,6 @@ agree_sym Bytes Bytes = refl
 agree_sym Condition Condition = refl
 agree_sym a b = refl
 
--- ---- the kinds of types
-
-pub type_kind : (t : ColType) → kind_of_type t ≢ Null
-type_kind type.Int same = cc
-type_kind type.BigInt same = cc
-type_kind (type.NVarChar most) same = cc
-type_kind (type.VarBinary most) same = cc
-
-pub type_value : (t : ColType) → is_value (kind_of_type t) ≡ true
-type_value type.Int = refl
-type_value type.BigInt = refl
-type_value (type.NVarChar most) = refl
-type_value (type.VarBinary most) = refl
-
 -- ---- ISNULL
 
 first_or : (a b : Kind) (x y : Value) → a ≢ Null → is_value a ≡ true → agree a b ≡ true → IsOfKind a x → IsOfKind b y → IsOfKind a (if_null x y)

@@ -12,6 +12,7 @@ use Rattle.ct_expr.specs.Meaning.{Meaning, Operand, chain, multiplied, added}
 use Rattle.ct_expr.specs.Numbers.{plus, minus}
 use Rattle.ct_expr_laws.proofs.Fitting.{fits_other, agree_sym, if_null_fits, on_numbers_kept}
 use Rattle.ct_types.proofs.AnswersKept.{Kept, ok_kept, then_kept, after_kept}
+use Rattle.ct_types.proofs.Tests.{both}
 
 -- what comes of an expression, if it is a value, is of the kind that was found for it
 abbrev pub Of : Option Kind → Answer Value → Type 0
@@ -34,10 +35,6 @@ of_condition false answer kind is value = absurd cc
 -- a number, whatever the parts are
 pub of_number : (test : Bool) (answer : Answer Value) → Kept (IsOfKind Number) answer → Of (when test (Some Number)) answer
 of_number test answer kept = of_when test (Some Number) answer (λ _. of_kept Number answer kept)
-
-pub both : (a b : Bool) → (a && b) ≡ true → (a ≡ true) × (b ≡ true)
-both true b e = (refl, e)
-both false b e = absurd cc
 
 -- ---- ISNULL
 

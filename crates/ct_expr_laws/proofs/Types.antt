@@ -11,8 +11,10 @@ use Rattle.ct_bind_kinds.specs.Kinds.{kind_of_type, agree, is_value, IsOfKind}
 use Rattle.ct_bind_kinds.specs.WellFormed.{kind_of, is_of}
 use Rattle.ct_expr.specs.Meaning.{value}
 use Rattle.ct_expr_laws.specs.Laws.{ValuesHaveTheirType}
-use Rattle.ct_expr_laws.proofs.Fitting.{fits_other, agree_sym, type_kind, type_value}
-use Rattle.ct_expr_laws.proofs.Rules.{Of, both}
+use Rattle.ct_bind_kinds.proofs.Types.{type_kind, type_value}
+use Rattle.ct_expr_laws.proofs.Fitting.{fits_other, agree_sym}
+use Rattle.ct_types.proofs.Tests.{both}
+use Rattle.ct_expr_laws.proofs.Rules.{Of}
 use Rattle.ct_expr_laws.proofs.Values.{every}
 
 null_kind : (t : ColType) → has_kind t v.Null ≡ true

@@ -18,9 +18,11 @@ use Rattle.ct_bind_kinds.specs.Kinds.{kind_of_type, agree, is_value, suits, IsOf
 use Rattle.ct_bind_kinds.specs.WellFormed.{column_of, column_kind, key_kinds, version_column_kind, go_together}
 use Rattle.ct_expr.specs.Functions.{or_null, counted_or_null, bytes_or_null, version_column}
 use Rattle.ct_expr.specs.Meaning.{Meaning, chain, listed, key_of, keyed}
-use Rattle.ct_expr_laws.proofs.Fitting.{type_kind, fits_other, counted_fits, bytes_fit}
+use Rattle.ct_bind_kinds.proofs.Types.{type_kind}
+use Rattle.ct_expr_laws.proofs.Fitting.{fits_other, counted_fits, bytes_fit}
 use Rattle.ct_types.proofs.AnswersKept.{Kept, ok_kept, then_kept, mapped_kept, twice_kept}
-use Rattle.ct_expr_laws.proofs.Rules.{Of, both}
+use Rattle.ct_types.proofs.Tests.{both}
+use Rattle.ct_expr_laws.proofs.Rules.{Of}
 
 -- values are of the kinds of a key's columns
 abbrev pub AreKeyed : List (Option Kind) → List Value → Type 0

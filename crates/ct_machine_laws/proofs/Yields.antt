@@ -1,7 +1,7 @@
 -- What rules make of lexemes that stand for names: a property of what a rule makes follows from those of its parts.
 use Rattle.std.proofs.Common.{◌≡◌, ◌⊎◌, inl, inr, true, List, [], ◌∷◌, ◌++◌, Option, Some, None, IfSome, sym, subst}
 use Rattle.std.specs.List.{AllByRecursion}
-use Rattle.ct_bind_kind_laws.proofs.Lists.{all_front, all_back}
+use Rattle.ct_types.proofs.Lists.{all_front, all_back}
 use Rattle.ct_grammar.specs.declared.repeats.Turn.{Turn}
 use Rattle.ct_grammar.specs.declared.repeats.Turn.TheVariants.{More, Last}
 use Rattle.ct_grammar.specs.Kinds.{Set, has}
