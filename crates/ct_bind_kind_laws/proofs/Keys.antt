@@ -15,7 +15,7 @@ use Rattle.ct_bind_names.specs.Names.{same}
 use Rattle.ct_bind_expr.specs.Versions.{key_columns, kind_of_column, key_column_from, version_column}
 use Rattle.ct_bind_kind_laws.specs.Laws.{HasKey}
 use Rattle.ct_types.proofs.AnswersTaken.{ok_or}
-use Rattle.ct_bind_names.proofs.Same.{same_first, same_second}
+use Rattle.ct_bind_names.proofs.Same.{same_second}
 use Rattle.ct_types.proofs.Lists.{all_mapped, all_join}
 use Rattle.ct_bind_kind_laws.proofs.Columns.{stands_here, one_further, behind_one}
 

@@ -13,8 +13,6 @@ use Rattle.ct_types.specs.declared.catalogue.Variable.{Variable}
 use Rattle.ct_types.specs.declared.expr.Expr.{Expr}
 use Rattle.ct_types.specs.declared.expr.ObjectName.{ObjectName}
 use Rattle.ct_types.specs.declared.refusal.Refusal.TheVariants.{NoObject}
-use Rattle.ct_types.specs.declared.schema.ColType.{ColType}
-use Rattle.ct_types.specs.declared.schema.ColType.TheVariants as type
 use Rattle.ct_types.specs.declared.schema.Column.{Column}
 use Rattle.ct_types.specs.declared.schema.Schema.{Schema}
 use Rattle.ct_types.specs.declared.stmt.FromClause.{FromClause}

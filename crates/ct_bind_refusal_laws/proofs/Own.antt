@@ -1,5 +1,5 @@
 -- Whatever binding refuses is its own to refuse, since each refusal has its cause: nothing else has one.
-use Rattle.std.proofs.Common.{◌≡◌, ℕ, ◌+◌, ◌<◌, ◌≤◌, Bool, not, List, [], ◌∷◌, length, Option, Some, ◌⊎◌, inl, inr, refl, arith}
+use Rattle.std.proofs.Common.{◌≡◌, ℕ, ◌+◌, ◌<◌, ◌≤◌, Bool, not, List, [], ◌∷◌, length, Option, Some, ◌⊎◌, inl, inr, arith}
 use Rattle.std.specs.List.{position_from}
 use Rattle.ct_types.specs.declared.catalogue.Catalogued.{Catalogued}
 use Rattle.ct_types.specs.declared.catalogue.Variable.{Variable}
@@ -10,7 +10,7 @@ use Rattle.ct_types.specs.declared.stmt.Stmt.{Stmt}
 use Rattle.ct_types.specs.declared.stmt.Stmt.TheVariants as stmt
 use Rattle.ct_types.proofs.AnswersTaken.{some_or}
 use Rattle.ct_bind_names.specs.Names.{table_name}
-use Rattle.ct_bind_refusal_laws.specs.Causes.{rules, BreaksRule, IsTooMany, HasCause}
+use Rattle.ct_bind_refusal_laws.specs.Causes.{rules, BreaksRule, HasCause}
 use Rattle.ct_bind_refusal_laws.specs.Own.{IsOfBinding, RefusesOnlyItsOwn}
 use Rattle.ct_bind_refusal_laws.proofs.Binding.{refusals_have_causes}
 
