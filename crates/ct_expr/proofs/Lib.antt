@@ -1,3 +1,4 @@
 pub mod Chains
 pub mod Truths
 pub mod RowVersions
+pub mod TextNames

@@ -5,7 +5,6 @@ use Rattle.std.specs.Prelude.{ℕ, ◌+◌, ◌^◌, ℤ, pos, Bool, true, false
 use Rattle.std.specs.List.{position}
 use Rattle.std.specs.Option.{option_map, option_and_then}
 use Rattle.std.specs.Ordering.{int_eq}
-use Rattle.std.specs.Str.{str_eq_ignore_ascii_case}
 use Rattle.ct_types.specs.declared.bound.VersionColumn.{VersionColumn}
 use Rattle.ct_types.specs.declared.bound.VersionColumn.TheVariants as shown
 use Rattle.ct_types.specs.declared.schema.Schema.{Schema}
@@ -13,9 +12,10 @@ use Rattle.ct_types.specs.declared.tracked.VersionRow.{VersionRow}
 use Rattle.ct_types.specs.declared.value.Key.{Key}
 use Rattle.ct_types.specs.declared.value.Value.{Value}
 use Rattle.ct_types.specs.declared.value.Value.TheVariants.{Null, Int, Text, Bytes}
+use Rattle.ct_bind_names.specs.Names.{same}
 use Rattle.ct_mask.specs.Masks.{reads}
-use Rattle.ct_table_name.specs.TableName.{table_named}
 use Rattle.ct_expr.specs.Numbers.{is_null}
+use Rattle.ct_expr.specs.Tables.{table_named}
 
 -- ---- values
 
@@ -50,14 +50,14 @@ object_id tables v = Null
 abbrev pub table_of : List Schema → ℤ → Option Schema
 table_of tables id = find (λ table. int_eq (pos table.id) id) tables
 
--- columns are numbered from 1, and names compare with ASCII letters folded
+-- columns are numbered from 1
 abbrev pub column_id : List ℕ → Schema → Option ℕ
-column_id name table = option_map (λ place. place + 1) (position (λ column. str_eq_ignore_ascii_case column.name name) table.columns)
+column_id name table = option_map (λ place. place + 1) (position (λ column. same column.name name) table.columns)
 
 -- COLUMNPROPERTY, which tells one property
 abbrev pub column_property : List Schema → Value → Value → Value → Value
 column_property tables (Int table) (Text column) (Text property) =
-    if str_eq_ignore_ascii_case property (codes "ColumnId") then counted_or_null (option_and_then (column_id column) (table_of tables table)) else Null
+    if same property (codes "ColumnId") then counted_or_null (option_and_then (column_id column) (table_of tables table)) else Null
 column_property tables table column property = Null
 
 -- ---- change tracking

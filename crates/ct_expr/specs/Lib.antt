@@ -1,5 +1,6 @@
 pub mod Logic
 pub mod Numbers
+pub mod Tables
 pub mod Functions
 pub mod Meaning
 pub mod Laws

@@ -1,12 +1,13 @@
 ghost use Rattle.std.specs.Prelude.{◌≡◌, ℕ, ◌+◌, ◌-◌, ◌++◌, ◌∷◌, [], IfOk, map, slice_get};
 ghost use Rattle.std.specs.List.{position};
 ghost use Rattle.std.specs.Option.{option_map, option_and_then};
-ghost use Rattle.std.specs.Str.{str_eq_ignore_ascii_case};
+ghost use Rattle.ct_bind_names.specs.Names.{same};
 ghost use Rattle.ct_expr.specs.Functions as spec;
 
 use crate::numbers::is_null;
+use crate::tables::table_named;
+use ct_bind_names::same_name;
 use ct_mask::read;
-use ct_table_name::table_named;
 use ct_types::{
     Bin, Column, Copies, Key, List, Memory, Schema, Value, Variable, VersionColumn, VersionRow,
 };
@@ -87,18 +88,12 @@ fn table_of(tables: &[Schema], id: i64) -> Option<&Schema>
     tables.iter().find(|table| i64::from(table.id) == id)
 }
 
-fn same(a: &str, b: &str) -> bool
-    ensures { result ≡ str_eq_ignore_ascii_case a.now b.now }
-{
-    a.eq_ignore_ascii_case(b)
-}
-
 fn place_of(name: &str, columns: &[Column]) -> Option<usize>
-    ensures { result ≡ position (λ column. str_eq_ignore_ascii_case column.name name.now) columns.now }
+    ensures { result ≡ position (λ column. same column.name name.now) columns.now }
 {
     columns
         .iter()
-        .position(|column| same(column.name.as_str(), name))
+        .position(|column| same_name(column.name.as_str(), name))
 }
 
 /// The id of the column of that name.
@@ -131,7 +126,7 @@ pub(crate) fn column_property(
 {
     match (table, column, property) {
         (Value::Int(table), Value::Text(column), Value::Text(property)) => {
-            if same(property.as_str(), "ColumnId") {
+            if same_name(property.as_str(), "ColumnId") {
                 counted_or_null(column_id_in(tables, *table, column.as_str()))
             } else {
                 Value::Null

@@ -7,8 +7,10 @@ mod functions;
 mod laws;
 mod logic;
 mod numbers;
+mod tables;
 
 pub use env::{Env, Versions};
 pub use evaluator::{eval, holds, truth};
 pub use functions::{bytes_or_null, counted, counted_or_null};
-pub use laws::{de_morgan, double_negation, mirror};
+pub use laws::{de_morgan, double_negation, mirror, text_names};
+pub use tables::table_named;

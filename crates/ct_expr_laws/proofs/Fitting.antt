@@ -3,7 +3,6 @@ use Rattle.std.proofs.Common.{◌≡◌, ◌≢◌, ℕ, zero, suc, ◌^◌, ℤ
 use Rattle.std.specs.List.{slice_get}
 use Rattle.std.specs.Option.{option_map, option_and_then}
 use Rattle.std.specs.Prelude.{codes}
-use Rattle.std.specs.Str.{str_eq_ignore_ascii_case}
 use Rattle.ct_types.specs.declared.schema.ColType.{ColType}
 use Rattle.ct_types.specs.declared.schema.ColType.TheVariants as type
 use Rattle.ct_types.specs.declared.schema.Schema.{Schema}
@@ -16,8 +15,9 @@ use Rattle.ct_bind_kinds.specs.declared.kind.Kind.TheVariants.{Number, Text, Byt
 use Rattle.ct_bind_kinds.specs.Kinds.{kind_of_type, agree, is_value, IsOfKind, AreOfKinds}
 use Rattle.ct_bind_kinds.specs.WellFormed.{either_of}
 use Rattle.ct_expr.specs.Numbers.{fits_64, on_numbers, negative}
+use Rattle.ct_bind_names.specs.Names.{same}
 use Rattle.ct_expr.specs.Functions.{or_null, counted_or_null, bytes_or_null, if_null, object_id, table_of, column_id, column_property, minimum_of, min_valid_version, is_column_in_mask, one_or_zero}
-use Rattle.ct_table_name.specs.TableName.{table_named}
+use Rattle.ct_expr.specs.Tables.{table_named}
 use Rattle.ct_types.proofs.AnswersKept.{Kept, ok_kept, err_kept}
 
 -- ---- NULL
@@ -113,7 +113,7 @@ counted_if false o = tt
 
 pub property_fits : (tables : List Schema) (x y z : Value) → IsOfKind Number (column_property tables x y z)
 property_fits tables (v.Int table) (v.Text column) (v.Text property) =
-    counted_if (str_eq_ignore_ascii_case property (codes "ColumnId")) (option_and_then (column_id column) (table_of tables table))
+    counted_if (same property (codes "ColumnId")) (option_and_then (column_id column) (table_of tables table))
 property_fits tables x y z = tt
 
 -- ---- numbers

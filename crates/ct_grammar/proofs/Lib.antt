@@ -12,3 +12,6 @@ pub mod Lookahead
 pub mod LeadingTokens
 pub mod Calls
 pub mod Fronts
+pub mod NameLaws
+pub mod Sentences
+pub mod TableTexts

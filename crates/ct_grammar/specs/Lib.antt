@@ -4,3 +4,6 @@ pub mod Words
 pub mod Rules
 pub mod Reading
 pub mod Viewed
+pub mod Names
+pub mod ReadNames
+pub mod TableTexts

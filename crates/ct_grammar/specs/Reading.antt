@@ -79,6 +79,15 @@ abbrev pub guard : {A : Type 0} → ℕ → Reader A → Reader A
 guard zero p = λ i. Err TooDeep
 guard (suc n) p = p
 
+-- the value, where no lexeme is left
+abbrev pub ended : {A : Type 0} → A → List Lexeme → Option A
+ended a [] = Some a
+ended a (x ∷ xs) = None
+
+abbrev pub whole : {A : Type 0} → Outcome A → Option A
+whole (Ok p) = ended p.0 p.1
+whole (Err fault) = None
+
 -- ---- single lexemes by what they stand for
 
 abbrev pub need : Kind → Reader Unit

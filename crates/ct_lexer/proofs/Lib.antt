@@ -7,3 +7,4 @@ pub mod Quotes
 pub mod Runs
 pub mod Sizes
 pub mod Spans
+pub mod Totality

@@ -1,5 +1,5 @@
 -- How a text is cut: tokens, and gaps between them, one after another.
-use Rattle.std.specs.Prelude.{◌≡◌, ℕ, ◌+◌, ◌<◌, List, [], ◌∷◌, ◌++◌, length}
+use Rattle.std.specs.Prelude.{◌≡◌, ◌⊎◌, ℕ, ◌+◌, ◌<◌, List, [], ◌∷◌, ◌++◌, length}
 use Rattle.ct_lexer.specs.declared.token.Token.{Token}
 use Rattle.ct_lexer.specs.declared.token.TokenKind.{TokenKind}
 use Rattle.ct_lexer.specs.declared.token.LexError.{LexError}
@@ -40,3 +40,7 @@ pub record IsStuck (text : List ℕ) (at : ℕ) : Type 0 where
 abbrev pub IsWrong : List ℕ → LexError → Type 0
 IsWrong text (errors.Syntax at) = IsStuck text at
 IsWrong text errors.Memory = Unit {0}
+
+-- the text has tokens, or is stuck at a place; each text is one or the other, in one way
+abbrev pub IsCutOrStuck : List ℕ → Type 0
+IsCutOrStuck text = ((tokens : List Token) × IsCut text tokens) ⊎ ((at : ℕ) × IsStuck text at)

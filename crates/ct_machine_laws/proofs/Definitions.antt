@@ -5,7 +5,7 @@ use Rattle.ct_types.specs.declared.stmt.ColumnDef.{ColumnDef}
 use Rattle.ct_model.specs.Names.{IsName}
 use Rattle.ct_grammar.specs.Kinds.{names}
 use Rattle.ct_grammar.specs.Rules.{name}
-use Rattle.ct_parse_expr.specs.Grammar.{table_name}
+use Rattle.ct_grammar.specs.Names.{table_name}
 use Rattle.ct_parse_definition.specs.Grammar as g
 use Rattle.ct_parse_definition.specs.Grammar.{tracking_of}
 use Rattle.ct_machine_laws.specs.Spelled.{IsSpelled}

@@ -10,7 +10,8 @@ use Rattle.ct_grammar.proofs.EndedLists.{some_until, law_until}
 use Rattle.ct_parse_definition.specs.Grammar as g
 use Rattle.ct_parse_definition.specs.Grammar.{switches, units}
 use Rattle.ct_parse_definition.specs.ReadDdl as p
-use Rattle.ct_parse_expr.proofs.NameLaws.{some_one, some_kind, some_name, some_number, some_table_name, some_name_list, law_one, law_kind, law_name, law_number, law_table_name, law_name_list}
+use Rattle.ct_grammar.proofs.NameLaws.{some_one, some_kind, some_name, some_number, some_table_name, law_one, law_kind, law_name, law_number, law_table_name}
+use Rattle.ct_parse_expr.proofs.NameLaws.{some_name_list, law_name_list}
 
 -- ---- ALTER DATABASE
 

@@ -21,7 +21,8 @@ use Rattle.ct_grammar.specs.declared.repeats.Turn.{Turn}
 use Rattle.ct_grammar.specs.declared.repeats.Turn.TheVariants.{More, Last}
 use Rattle.ct_grammar.specs.Kinds.{Set}
 use Rattle.ct_grammar.specs.Rules.{Rule, ◌and◌, ◌or◌, ◌of◌, maybe, many, until, one, kind, name, number}
-use Rattle.ct_parse_expr.specs.Grammar.{table_name, name_list}
+use Rattle.ct_grammar.specs.Names.{table_name}
+use Rattle.ct_parse_expr.specs.Grammar.{name_list}
 
 -- ---- sets of kinds
 

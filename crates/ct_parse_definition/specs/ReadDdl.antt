@@ -16,7 +16,8 @@ use Rattle.ct_grammar.specs.declared.repeats.Turn.{Turn}
 use Rattle.ct_grammar.specs.declared.repeats.Turn.TheVariants.{More, Last}
 use Rattle.ct_grammar.specs.Kinds.{names}
 use Rattle.ct_grammar.specs.Reading.{Reader, both, making, pick, option, repeat, until_last, need, kind, name, number}
-use Rattle.ct_parse_expr.specs.ReadExpr.{table_name, name_list}
+use Rattle.ct_grammar.specs.ReadNames.{table_name}
+use Rattle.ct_parse_expr.specs.ReadExpr.{name_list}
 use Rattle.ct_parse_definition.specs.Grammar.{switches, units, is_on, unit_of, options_in, on_in, tracking_of}
 
 -- ---- ALTER DATABASE

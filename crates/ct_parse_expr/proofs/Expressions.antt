@@ -5,6 +5,7 @@ use Rattle.ct_types.specs.declared.expr.Expr.TheVariants as e
 use Rattle.ct_grammar.specs.declared.kind.Kind.TheVariants as k
 use Rattle.ct_grammar.specs.Kinds.{same, Set, has, apart, within, names}
 use Rattle.ct_grammar.specs.Lexemes.{Lexeme, matches}
+use Rattle.ct_grammar.specs.Names.{second_part}
 use Rattle.ct_grammar.specs.Words.{name_in}
 use Rattle.ct_grammar.specs.Rules.{token, ◌and◌, ◌or◌, ◌of◌, maybe, below, one, kind, numbers}
 use Rattle.ct_grammar.specs.Reading.{Outcome, Reader, ahead, guard, need}
@@ -21,7 +22,8 @@ use Rattle.ct_parse_expr.specs.declared.level.Entry.TheVariants.{Whole, Negated,
 use Rattle.ct_parse_expr.specs.Grammar as g
 use Rattle.ct_parse_expr.specs.Grammar.{comparisons, signs, with_none, with_one, with_two, with_three, column_of, call_one, call_two}
 use Rattle.ct_parse_expr.specs.ReadExpr as p
-use Rattle.ct_parse_expr.proofs.NameLaws.{only, shape_kind, shape_name, table_name_shape, alias_shape, name_list_shape, column_shape, second_shape, some_one, some_name, some_table_name, some_alias, some_name_list, law_one, law_kind, law_name, law_number, law_table_name, law_alias, law_name_list, law_column}
+use Rattle.ct_grammar.proofs.NameLaws.{only, shape_kind, shape_name, table_name_shape, second_shape, some_one, some_name, some_table_name, law_one, law_kind, law_name, law_number, law_table_name}
+use Rattle.ct_parse_expr.proofs.NameLaws.{alias_shape, name_list_shape, column_shape, some_alias, some_name_list, law_alias, law_name_list, law_column}
 use Rattle.ct_parse_expr.proofs.Calls.{shape_below, call_misses, law_call_or}
 
 -- ---- sets: how spellings begin, and by what they may go on
@@ -300,7 +302,7 @@ column_alone t h = record {
 -- behind a column no bracket opens
 column_misses : (s : Set) (a : Expr) (ts rest : List Lexeme) → g.column a ts → NotNext primary_goes rest → matches (s ∷ (k.Open ∷ []) ∷ []) (ts ++ rest) ≡ false
 unfolding g.column apart has same
-column_misses s a ts rest h stops = second_unmatched (λ x. name_in x.kind x.word) s (k.Open ∷ []) names (maybe g.second_part) h.from ts rest h.spelled
+column_misses s a ts rest h stops = second_unmatched (λ x. name_in x.kind x.word) s (k.Open ∷ []) names (maybe second_part) h.from ts rest h.spelled
     (λ y m. elsewhere_or_behind (k.Open ∷ []) (k.Dot ∷ []) y rest refl ((shape_maybe second_shape).begins h.from.1 y m) stops)
 
 some_open : Prefix (token (k.Open ∷ [])) []

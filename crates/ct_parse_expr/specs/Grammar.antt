@@ -8,13 +8,13 @@ use Rattle.ct_types.specs.declared.expr.Expr.TheVariants as e
 use Rattle.ct_types.specs.declared.expr.Term.{Term, roll-Term}
 use Rattle.ct_types.specs.declared.expr.Scalar.{Scalar, roll-Scalar}
 use Rattle.ct_types.specs.declared.expr.RowVersion.{RowVersion, roll-RowVersion}
-use Rattle.ct_types.specs.declared.expr.ObjectName.{ObjectName}
 use Rattle.ct_types.specs.declared.expr.ColumnName.{ColumnName}
 use Rattle.ct_grammar.specs.declared.kind.Kind.{Kind}
 use Rattle.ct_grammar.specs.declared.kind.Kind.TheVariants as k
 use Rattle.ct_grammar.specs.Kinds.{Set}
 use Rattle.ct_grammar.specs.Lexemes.{Lexeme}
 use Rattle.ct_grammar.specs.Rules.{Rule, ◌and◌, ◌or◌, ◌of◌, maybe, many, never, below, one, kind, name, number, variable, text, bytes}
+use Rattle.ct_grammar.specs.Names.{second_part, table_name}
 use Rattle.ct_parse_expr.specs.declared.level.Entry.{Entry}
 use Rattle.ct_parse_expr.specs.declared.level.Entry.TheVariants.{Whole, Negated, Signed}
 use Rattle.ct_parse_expr.specs.declared.level.Test.{Test}
@@ -91,14 +91,6 @@ tested left (Some test.NotNull) = e.IsNotNull left
 
 -- ---- names
 
--- name ["." name]
-abbrev pub second_part : Rule (List ℕ)
-second_part = (λ p. p.1) of (one k.Dot and name)
-
--- tname = name ["." name]
-unfoldable pub table_name : Rule ObjectName
-table_name = (λ p. record { first = p.0; second = p.1 }) of (name and maybe second_part)
-
 -- [AS] name
 unfoldable pub alias : Rule (List ℕ)
 alias = (λ p. p.1) of (maybe (one k.As) and name)
@@ -107,6 +99,7 @@ alias = (λ p. p.1) of (maybe (one k.As) and name)
 unfoldable pub name_list : Rule (List (List ℕ))
 name_list = (λ p. p.1.0 ∷ p.1.1.0) of (one k.Open and name and many ((λ p. p.1) of (one k.Comma and name)) and one k.Close)
 
+-- name ["." name]
 unfoldable pub column : Rule Expr
 column = (λ p. e.Column (column_of p.0 p.1)) of (name and maybe second_part)
 

@@ -5,10 +5,10 @@ use Rattle.ct_types.specs.declared.expr.Expr.TheVariants as e
 use Rattle.ct_types.specs.declared.expr.Term.{Term}
 use Rattle.ct_types.specs.declared.expr.Scalar.{Scalar, roll-Scalar}
 use Rattle.ct_types.specs.declared.expr.RowVersion.{RowVersion, roll-RowVersion}
-use Rattle.ct_types.specs.declared.expr.ObjectName.{ObjectName}
 use Rattle.ct_grammar.specs.declared.kind.Kind.TheVariants as k
 use Rattle.ct_grammar.specs.declared.fault.Fault.TheVariants.{TooDeep}
 use Rattle.ct_grammar.specs.Rules.{numbers}
+use Rattle.ct_grammar.specs.ReadNames.{second_part, table_name}
 use Rattle.ct_grammar.specs.Reading.{Reader, both, making, pick, ahead, option, repeat, guard, need, kind, name, number, variable, text, bytes}
 use Rattle.ct_parse_expr.specs.declared.level.Entry.{Entry}
 use Rattle.ct_parse_expr.specs.declared.level.Entry.TheVariants.{Whole, Negated, Signed}
@@ -17,12 +17,6 @@ use Rattle.ct_parse_expr.specs.declared.level.Test.TheVariants as test
 use Rattle.ct_parse_expr.specs.Grammar.{comparisons, signs, with_none, with_one, with_two, with_three, column_of, call_one, call_two, any_of, sum_of, term_of, comparison_of, null_test, tested}
 
 -- ---- names
-
-unfoldable pub second_part : Reader (List ℕ)
-second_part = making (λ p. p.1) (both (need k.Dot) name)
-
-unfoldable pub table_name : Reader ObjectName
-table_name = making (λ p. record { first = p.0; second = p.1 }) (both name (option (k.Dot ∷ []) second_part))
 
 unfoldable pub alias : Reader (List ℕ)
 alias = making (λ p. p.1) (both (option (k.As ∷ []) (need k.As)) name)

@@ -9,6 +9,6 @@ mod trees;
 mod values;
 
 pub use level::Entry;
-pub use names::{alias, name_list, table_name};
+pub use names::{alias, name_list};
 pub use trees::with_first;
 pub use values::{tuple, value, version, version_tail};

@@ -8,37 +8,9 @@ ghost use Rattle.ct_parse_expr.specs.ReadExpr as spec;
 ghost use Rattle.ct_parse_expr.specs.declared.level.Entry.TheVariants.{Whole};
 
 use crate::trees::{column_of, with_first};
-use ct_grammar::{Cursor, Fault, Kind, read_many};
-use ct_types::{Expr, List, ObjectName, Text};
+use ct_grammar::{Cursor, Fault, Kind, maybe_second, read_many};
+use ct_types::{Expr, List, Text};
 use std::alloc::Global;
-
-#[tactic(auto, unfolding(crate::specs::ReadExpr::second_part))]
-fn second_part(alloc: Global, tokens: &mut Cursor<'_>) -> Result<Text, Fault>
-    ensures { Reads (spec.second_part tokens.old) result tokens.new }
-{
-    tokens.skip(Kind::Dot)?;
-    tokens.name(alloc)
-}
-
-fn maybe_second(alloc: Global, tokens: &mut Cursor<'_>) -> Result<Option<Text>, Fault>
-    ensures { Reads (option (k.Dot ∷ []) spec.second_part tokens.old) result tokens.new }
-{
-    if tokens.sees(&[Kind::Dot]) {
-        Ok(Some(second_part(alloc, tokens)?))
-    } else {
-        Ok(None)
-    }
-}
-
-/// A table's name.
-#[tactic(auto, unfolding(crate::specs::ReadExpr::table_name))]
-pub fn table_name(alloc: Global, tokens: &mut Cursor<'_>) -> Result<ObjectName, Fault>
-    ensures { Reads (spec.table_name tokens.old) result tokens.new }
-{
-    let first = tokens.name(alloc)?;
-    let second = maybe_second(alloc, tokens)?;
-    Ok(ObjectName { first, second })
-}
 
 /// Another name of what stands before it.
 #[tactic(auto, unfolding(crate::specs::ReadExpr::alias))]

@@ -8,9 +8,9 @@ ghost use Rattle.ct_parse_expr.specs.ReadExpr as spec;
 ghost use Rattle.ct_parse_expr.specs.declared.level.Entry.TheVariants.{Whole};
 
 use crate::level::{Entry, Parser};
-use crate::names::{alias, column, name_list, table_name};
+use crate::names::{alias, column, name_list};
 use crate::trees::{call_one, call_two, in_tree, with_first};
-use ct_grammar::{Cursor, Fault, Kind, NUMBERS, read_many};
+use ct_grammar::{Cursor, Fault, Kind, NUMBERS, read_many, table_name};
 use ct_types::{Expr, List, RowVersion, Scalar};
 use sqlite_items::{Boxed, Items};
 use std::alloc::Global;

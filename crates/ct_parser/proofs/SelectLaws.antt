@@ -26,12 +26,15 @@ use Rattle.ct_grammar.proofs.LeadingTokens.{two_matched, three_matched, traverse
 use Rattle.ct_parse_expr.specs.declared.level.Entry.{Entry}
 use Rattle.ct_parse_expr.specs.declared.level.Entry.TheVariants.{Whole}
 use Rattle.ct_parse_expr.specs.Grammar.{column_of, with_none, with_one, with_two, with_three}
+use Rattle.ct_grammar.specs.Names.{table_name}
+use Rattle.ct_grammar.specs.ReadNames.{second_part}
 use Rattle.ct_parse_expr.specs.Grammar as g
 use Rattle.ct_parser.specs.Statements as s
 use Rattle.ct_parser.specs.Statements.{directions}
 use Rattle.ct_parse_expr.specs.ReadExpr as p
 use Rattle.ct_parser.specs.ReadStmt as q
-use Rattle.ct_parse_expr.proofs.NameLaws.{second_shape, alias_shape, some_one, some_name, some_variable, some_table_name, some_alias, law_one, law_kind, law_name, law_variable, law_table_name, law_alias, law_name_list}
+use Rattle.ct_grammar.proofs.NameLaws.{second_shape, some_one, some_name, some_variable, some_table_name, law_one, law_kind, law_name, law_variable, law_table_name}
+use Rattle.ct_parse_expr.proofs.NameLaws.{alias_shape, some_alias, law_alias, law_name_list}
 use Rattle.ct_parse_expr.proofs.Expressions.{negation_starts, disjunction_goes, column_alone, law_expr, some_expr, law_tuple, some_tuple, law_version_tail, law_version, some_version}
 use Rattle.ct_parse_definition.proofs.DdlLaws.{law_alter, law_create, law_truncate, some_truncate, law_type_name, some_type_name}
 use Rattle.ct_parser.proofs.StatementLaws.{law_begin, law_commit, law_rollback, some_table_source, law_table_source, law_join_kind}
@@ -96,7 +99,7 @@ stopped s r t (u ∷ y) h = rw h (and-false (has s t.kind))
 
 -- a name alone is a table
 table_alone : (t : Lexeme) → has names t.kind ≡ true → s.table_source (record { table = record { first = name_in t.kind t.word; second = None }; alias = None }) (t ∷ [])
-unfolding s.table_source g.table_name
+unfolding s.table_source table_name
 table_alone t h = record {
   from = (record { first = name_in t.kind t.word; second = None }, None);
   is = refl;
@@ -118,7 +121,7 @@ source_goes = k.Open ∷ k.Dot ∷ k.As ∷ names
 
 -- behind a table and its alias no bracket opens
 table_misses : (a : Source) (ts rest : List Lexeme) → ((λ table. source_as.Table table) of s.table_source) a ts → NotNext source_goes rest → matches ((k.ChangeTable ∷ []) ∷ (k.Open ∷ []) ∷ []) (ts ++ rest) ≡ false
-unfolding s.table_source g.table_name apart has same
+unfolding s.table_source table_name apart has same
 table_misses a ts rest h stops =
     let j = h.spelled.spelled in
     let i = j.first.spelled in
@@ -237,19 +240,19 @@ module _ (inner : Entry → Reader Expr) (n : ℕ) (t u v : Lexeme) (rest : List
   unfolding apart has same sees
   no_name = made_fails (λ x. name_in x.kind x.word) (expect names) (v ∷ rest) _ (expect_misses names (v ∷ rest) (apart_excludes names (k.Star ∷ []) v.kind refl is_star))
 
-  no_second : p.second_part (u ∷ v ∷ rest) ≡ Err (Syntax (length (v ∷ rest)))
-  unfolding p.second_part
+  no_second : second_part (u ∷ v ∷ rest) ≡ Err (Syntax (length (v ∷ rest)))
+  unfolding second_part
   no_second = made_fails (λ p. p.1) (both (need k.Dot) r.name) (u ∷ v ∷ rest) _
       (second_fails (need k.Dot) r.name (u ∷ v ∷ rest) tt (v ∷ rest) _ (ap (λ o. and_then o (λ x. pure tt)) (expect_takes (k.Dot ∷ []) u (v ∷ rest) is_dot)) no_name)
 
-  no_option : option (k.Dot ∷ []) p.second_part (u ∷ v ∷ rest) ≡ Err (Syntax (length (v ∷ rest)))
+  no_option : option (k.Dot ∷ []) second_part (u ∷ v ∷ rest) ≡ Err (Syntax (length (v ∷ rest)))
   unfolding sees
-  no_option = rw is_dot (made_fails Some p.second_part (u ∷ v ∷ rest) _ no_second)
+  no_option = rw is_dot (made_fails Some second_part (u ∷ v ∷ rest) _ no_second)
 
   no_column : p.column (t ∷ u ∷ v ∷ rest) ≡ Err (Syntax (length (v ∷ rest)))
   unfolding p.column
-  no_column = made_fails (λ p. e.Column (column_of p.0 p.1)) (both r.name (option (k.Dot ∷ []) p.second_part)) (t ∷ u ∷ v ∷ rest) _
-      (second_fails r.name (option (k.Dot ∷ []) p.second_part) (t ∷ u ∷ v ∷ rest) (name_in t.kind t.word) (u ∷ v ∷ rest) _
+  no_column = made_fails (λ p. e.Column (column_of p.0 p.1)) (both r.name (option (k.Dot ∷ []) second_part)) (t ∷ u ∷ v ∷ rest) _
+      (second_fails r.name (option (k.Dot ∷ []) second_part) (t ∷ u ∷ v ∷ rest) (name_in t.kind t.word) (u ∷ v ∷ rest) _
       (ap (λ o. and_then o (λ x. pure (name_in x.kind x.word))) (expect_takes names t (u ∷ v ∷ rest) is_name)) no_option)
 
   skipped : (s : Set) → matches (s ∷ (k.Open ∷ []) ∷ []) (t ∷ u ∷ v ∷ rest) ≡ false

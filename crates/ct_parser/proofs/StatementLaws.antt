@@ -8,7 +8,8 @@ use Rattle.ct_grammar.proofs.Choices.{some_left, some_maybe, law_pick, law_optio
 use Rattle.ct_parser.specs.Statements as g
 use Rattle.ct_parser.specs.Statements.{transactions}
 use Rattle.ct_parser.specs.ReadStmt as p
-use Rattle.ct_parse_expr.proofs.NameLaws.{some_one, some_kind, some_table_name, law_one, law_kind, law_table_name, law_alias}
+use Rattle.ct_grammar.proofs.NameLaws.{some_one, some_kind, some_table_name, law_one, law_kind, law_table_name}
+use Rattle.ct_parse_expr.proofs.NameLaws.{law_alias}
 
 -- ---- transactions
 

@@ -35,7 +35,8 @@ use Rattle.ct_parse_expr.specs.declared.level.Entry.TheVariants.{Whole}
 use Rattle.ct_parser.specs.declared.parts.ChangeTable.{ChangeTable}
 use Rattle.ct_parser.specs.declared.parts.ChangeTable.TheVariants as table_as
 use Rattle.ct_parse_definition.specs.ReadDdl.{alter, create, truncate, type_name}
-use Rattle.ct_parse_expr.specs.ReadExpr.{table_name, alias, name_list, tuple, version_tail, version, expr}
+use Rattle.ct_grammar.specs.ReadNames.{table_name}
+use Rattle.ct_parse_expr.specs.ReadExpr.{alias, name_list, tuple, version_tail, version, expr}
 use Rattle.ct_parser.specs.Exact.{place}
 use Rattle.ct_parser.specs.Statements.{directions, transactions, list_in, source_of, descends}
 

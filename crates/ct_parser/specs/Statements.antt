@@ -30,7 +30,8 @@ use Rattle.ct_parse_expr.specs.declared.level.Entry.TheVariants.{Whole}
 use Rattle.ct_parser.specs.declared.parts.ChangeTable.{ChangeTable}
 use Rattle.ct_parser.specs.declared.parts.ChangeTable.TheVariants as table_as
 use Rattle.ct_parse_definition.specs.Grammar.{alter, create, truncate, type_name}
-use Rattle.ct_parse_expr.specs.Grammar.{table_name, alias, name_list, tuple, version_tail, version, expr}
+use Rattle.ct_grammar.specs.Names.{table_name}
+use Rattle.ct_parse_expr.specs.Grammar.{alias, name_list, tuple, version_tail, version, expr}
 
 -- ---- sets of kinds
 

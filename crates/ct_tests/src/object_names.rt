@@ -1,4 +1,5 @@
-use ct_table_name::spelled_name;
+use ct_bind_names::table_name;
+use ct_grammar::text_name;
 use std::test::Fail;
 
 /// Texts, and the name that each spells.
@@ -22,8 +23,11 @@ const NAMES: [(&str, Option<&str>); 14] = [
 #[test]
 fn reads_names(rt: HostRuntime) -> Result<(), Fail> {
     for (text, name) in NAMES {
-        match spelled_name(rt.alloc(), text)? {
-            Some(found) => assert_eq!(rt; Some(found.as_str()), name, "{text}"),
+        match text_name(rt.alloc(), text)? {
+            Some(found) => {
+                let found = table_name(rt.alloc(), &found)?;
+                assert_eq!(rt; Some(found.as_str()), name, "{text}");
+            }
             None => assert_eq!(rt; None, name, "{text}"),
         }
     }
