@@ -17,7 +17,9 @@ fn text_name(alloc: Global, text: &str) -> Result<Option<ObjectName>, Memory>
 fn named<'a>(tables: &'a [Schema], name: &Text) -> Option<&'a Schema>
     ensures { option_map (λ table. table.now) result ≡ find (λ table. same table.name name.now) tables.now }
 {
-    tables.iter().find(|table| same_name(table.name.as_str(), name.as_str()))
+    tables
+        .iter()
+        .find(|table| same_name(table.name.as_str(), name.as_str()))
 }
 
 /// The table that a text names: its tokens are one name, or two with a full stop between them, of which a first one `dbo` is

@@ -73,7 +73,7 @@ bracketed_told b tail = by (b == 91 && fills tail) refl
     by false e = inr (λ word more cut name.
         let f = bracket_front b tail word more cut name in
         both_ways (b == 91 && fills tail) e (and_from (b == 91) (fills tail) (eq-eqb b 91 f.opens)
-            (and_from closes (nat_lt 0 size && nat_le size 128) f.closes (and_from (nat_lt 0 size) (nat_le size 128) (lt-ltb 0 size f.some) (le-leb size 128 f.short)))))
+        (and_from closes (nat_lt 0 size && nat_le size 128) f.closes (and_from (nat_lt 0 size) (nat_le size 128) (lt-ltb 0 size f.some) (le-leb size 128 f.short)))))
 
 -- ---- texts
 
@@ -142,7 +142,7 @@ bytes_told b (c ∷ tail) = by (b == 48 && (belongs byte.BytesMark c && (size % 
     by false e = inr (λ word more cut bytes.
         let f = bytes_front b c tail word more cut bytes in
         both_ways (b == 48 && (belongs byte.BytesMark c && (size % 2 == 0))) e
-            (and_from (b == 48) (belongs byte.BytesMark c && (size % 2 == 0)) (eq-eqb b 48 f.zero) (and_from (belongs byte.BytesMark c) (size % 2 == 0) f.marks (eq-eqb (size % 2) 0 f.even))))
+        (and_from (b == 48) (belongs byte.BytesMark c && (size % 2 == 0)) (eq-eqb b 48 f.zero) (and_from (belongs byte.BytesMark c) (size % 2 == 0) f.marks (eq-eqb (size % 2) 0 f.even))))
 
 sign_told : (b : ℕ) (tail : List ℕ) → Told IsSign (b ∷ tail)
 sign_told b tail = by (begins_pair b tail) (belongs byte.Sign b) (begins_comment b tail) refl refl refl
@@ -193,13 +193,16 @@ number_no_bytes b tail told = false_from_ne_true (begins_bytes (b ∷ tail)) (λ
 
 -- one of these and more, where the bytes say more
 also_told : (Is And : List ℕ → List ℕ → Type 0) (bytes : List ℕ) → ((word more : List ℕ) → bytes ≡ word ++ more → And word more) → Told Is bytes → Told (λ word more. Is word more × And word more) bytes
-also_told Is And bytes and (inl found) = inl (found.0, record {
-  word = found.1.word;
-  more = found.1.more;
-  cut = found.1.cut;
-  long = found.1.long;
-  is = (found.1.is, and found.1.word found.1.more found.1.cut);
-})
+also_told Is And bytes and (inl found) = inl (
+  found.0,
+  record {
+    word = found.1.word;
+    more = found.1.more;
+    cut = found.1.cut;
+    long = found.1.long;
+    is = (found.1.is, and found.1.word found.1.more found.1.cut);
+  },
+)
 also_told Is And bytes and (inr never) = inr (λ word more cut is. never word more cut is.0)
 
 of_kind : (which : TokenKind) (b : ℕ) (tail : List ℕ) → kind_at (b ∷ tail) ≡ Some which → Told (IsToken which) (b ∷ tail)
@@ -245,7 +248,7 @@ one_on text tokens at left c h go (inl found) told =
 one_on text tokens at left c h go (inr no_gap) (inl found) =
     let some : 0 < length found.1.1.word = some_token found.0 found.1.1.word found.1.1.more found.1.1.is in
     go (tokens ++ record { kind = found.0; from = at; to = at + found.1.0 } ∷ []) (at + found.1.0)
-        (past_token text (drop at text) tokens _ at found.1.0 found.0 c refl found.1.1 refl) (omega (arith, h, some, found.1.1.long))
+    (past_token text (drop at text) tokens _ at found.1.0 found.0 c refl found.1.1 refl) (omega (arith, h, some, found.1.1.long))
 one_on text tokens at left c h go (inr no_gap) (inr no_token) = ends text tokens at c no_gap no_token (cases_lt at (length text))
 
 -- the number bounds the pieces

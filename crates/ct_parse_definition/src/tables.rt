@@ -7,8 +7,8 @@ ghost use Rattle.ct_grammar.specs.declared.kind.Kind.TheVariants as k;
 
 use crate::databases::database;
 use crate::trees::{is_on, on_in, tracking_of};
-use ct_parse_expr::{name_list, with_first};
 use ct_grammar::{Cursor, Fault, Kind, NAMES, Turn, read_many, read_until, table_name};
+use ct_parse_expr::{name_list, with_first};
 use ct_types::{ColumnDef, ColumnRule, List, Stmt, Text, TypeName};
 use std::alloc::Global;
 

@@ -13,4 +13,3 @@ mod writes;
 
 pub use law::{answers_once, reads_exactly};
 pub use statement::parse;
-

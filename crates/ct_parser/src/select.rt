@@ -9,8 +9,8 @@ ghost use Rattle.ct_parser.specs.Statements.{directions};
 
 use crate::levels::Parser;
 use crate::trees::{descends, list_in};
-use ct_parse_expr::{value, with_first};
 use ct_grammar::{Cursor, Fault, Kind, NAMES, read_many};
+use ct_parse_expr::{value, with_first};
 use ct_types::{Expr, List, OrderItem, Select, SelectItem, Stmt};
 
 const DIRECTIONS: &[Kind] = &[Kind::Asc, Kind::Desc];

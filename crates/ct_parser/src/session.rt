@@ -8,9 +8,9 @@ ghost use Rattle.ct_parser.specs.ReadStmt as spec;
 ghost use Rattle.ct_parser.specs.Statements.{transactions};
 
 use crate::levels::Parser;
+use ct_grammar::{Cursor, Fault, Kind};
 use ct_parse_definition::type_name;
 use ct_parse_expr::value;
-use ct_grammar::{Cursor, Fault, Kind};
 use ct_types::{Expr, Isolation, Stmt};
 
 const TRANSACTIONS: &[Kind] = &[Kind::Tran, Kind::Transaction];

@@ -10,8 +10,8 @@ ghost use Rattle.ct_parser.specs.ReadStmt as spec;
 use crate::levels::Parser;
 use crate::parts::ChangeTable;
 use crate::trees::source_of;
-use ct_parse_expr::{alias, value, version, version_tail};
 use ct_grammar::{Cursor, Fault, Kind, table_name};
+use ct_parse_expr::{alias, value, version, version_tail};
 use ct_types::{FromClause, JoinClause, JoinKind, Source, TableSource, Text, VersionSource};
 
 const ALIAS: &[Kind] = &[

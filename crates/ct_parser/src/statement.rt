@@ -9,9 +9,9 @@ ghost use Rattle.ct_parse_expr.specs.ReadExpr as exprs;
 ghost use Rattle.ct_parser.specs.ReadStmt as spec;
 
 use crate::levels::Parser;
-use ct_parse_definition::{alter, create, truncate};
 use ct_grammar::{Cursor, Fault, Kind};
 use ct_lexer::Token;
+use ct_parse_definition::{alter, create, truncate};
 use ct_types::{Refusal, Stmt};
 use std::alloc::Global;
 

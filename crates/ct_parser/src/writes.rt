@@ -7,8 +7,8 @@ ghost use Rattle.ct_parse_expr.specs.ReadExpr as exprs;
 ghost use Rattle.ct_parser.specs.ReadStmt as spec;
 
 use crate::levels::Parser;
-use ct_parse_expr::{name_list, tuple, value, with_first};
 use ct_grammar::{Cursor, Fault, Kind, read_many, table_name};
+use ct_parse_expr::{name_list, tuple, value, with_first};
 use ct_types::{Expr, List, SetColumn, Stmt, TableSource, Text, WriteStmt};
 use sqlite_items::Items;
 

@@ -2,8 +2,7 @@ ghost use Rattle.std.specs.Prelude.{◌≡◌, ◌++◌, ◌<◌, ◌^◌, ◌+�
 ghost use Rattle.ct_machine.specs.Transcript.{head_text, block_text, text_from, further_from, run_text};
 
 use crate::reply::add_reply;
-use ct_types::Journaled;
-use ct_types::{Bin, List, Memory};
+use ct_types::{Bin, Journaled, List, Memory};
 use std::alloc::{AllocError, Global};
 
 #[tactic(auto, unfolding(ct_machine::specs::Transcript::head_text))]
