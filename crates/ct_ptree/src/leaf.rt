@@ -1,0 +1,241 @@
+ghost use Rattle.std.specs.Prelude.{◌≡◌, ◌==◌, ◌+◌, ◌<◌, ◌≤◌, ◌++◌, ◌∷◌, [], IfOk, OnOk, OnErr, None, length, take, drop, filter};
+ghost use Rattle.std.specs.Option.{IfSome, option_copied};
+ghost use Rattle.ct_ptree.specs.Pairs.{Ascends, values, is_below, is_above, value_at, with_pair, without, from_key, start_cmp, IsFoundAt, AreHalves};
+
+use crate::pair::Pair;
+use ct_types::{Key, Memory, cmp_key};
+use std::alloc::Global;
+use std::cmp::Ordering;
+use std::marker::Model;
+use std::sync::Arc;
+
+/// The most pairs of a leaf that is not to be halved.
+const MOST: usize = 127;
+
+/// The most pairs of two leaves that become one.
+const FEW: usize = 64;
+
+/// Some pairs in rising order of keys.
+#[derive(Drop)]
+pub(crate) struct Leaf<V> {
+    pairs: Arc<Vec<Arc<Pair<V>>>>,
+}
+
+impl<V> Model for Leaf<V> {
+    ghost use Rattle.std.specs.Prelude.{List};
+    ghost use Rattle.ct_ptree.specs.declared.pair.Pair.{Pair};
+    ghost use Rattle.ct_ptree.specs.Pairs.{values};
+
+    ghost Value = { List (Pair V) };
+
+    ghost view = { λ it. values it.pairs.value.items };
+}
+
+/// How many pairs stand below a key, and how many stand not above it.
+fn gap<V>(pairs: &[Arc<Pair<V>>], key: &Key) -> (usize, usize)
+    requires { Ascends (values pairs.now) }
+    ensures within { result.1 ≤ length pairs.now }
+    ensures order { result.0 ≤ result.1 }
+    ensures narrow { result.1 ≤ result.0 + 1 }
+    ensures low { values (take result.0 pairs.now) ≡ filter (is_below key.now) (values pairs.now) }
+    ensures high { values (drop result.1 pairs.now) ≡ filter (is_above key.now) (values pairs.now) }
+    ensures rest { values (drop result.0 pairs.now) ≡ from_key (values pairs.now) key.now }
+    ensures found { result.0 < result.1 → IsFoundAt pairs.now key.now result.0 }
+    ensures none { result.0 ≡ result.1 → value_at (values pairs.now) key.now ≡ None }
+{
+    let mut low = 0;
+    let mut high = pairs.len();
+    while low < high {
+        let middle = low + (high - low) / 2;
+        match cmp_key(&pairs[middle].key, key) {
+            Ordering::Less => low = middle + 1,
+            Ordering::Greater => high = middle,
+            Ordering::Equal => return (middle, middle + 1),
+        }
+    }
+    (low, low)
+}
+
+/// Adds shares of pairs at the end of a list.
+fn push_shares<V: Drop>(made: &mut Vec<Arc<Pair<V>>>, pairs: &[Arc<Pair<V>>]) -> Result<(), Memory>
+    ensures { OnOk result (values made.new.items ≡ values made.old.items ++ values pairs.now) }
+{
+    for pair in pairs {
+        made.push(Arc::try_clone(pair)?)?;
+    }
+    Ok(())
+}
+
+/// A list of shares of pairs, with room for one more.
+fn shares<V: Drop>(alloc: Global, pairs: &[Arc<Pair<V>>]) -> Result<Vec<Arc<Pair<V>>>, Memory>
+    ensures { IfOk result (λ made. values made.items ≡ values pairs.now) }
+{
+    let mut made = Vec::with_capacity(alloc, pairs.len().saturating_add(1))?;
+    push_shares(&mut made, pairs)?;
+    Ok(made)
+}
+
+/// Puts a pair in the place of its key.
+fn put_pair<V: Drop>(pairs: &mut Vec<Arc<Pair<V>>>, pair: Arc<Pair<V>>) -> Result<(), Memory>
+    requires { Ascends (values pairs.old.items) }
+    ensures ok { OnOk result (values pairs.new.items ≡ with_pair (values pairs.old.items) pair.value) }
+    ensures err { OnErr result (values pairs.new.items ≡ values pairs.old.items) }
+{
+    let (low, high) = gap(pairs.as_slice(), &pair.key);
+    if low < high {
+        pairs[low] = pair;
+    } else {
+        pairs.insert(low, pair)?;
+    }
+    Ok(())
+}
+
+/// Takes the pair of a key away, where there is one.
+fn take_pair<V: Drop>(pairs: &mut Vec<Arc<Pair<V>>>, key: &Key)
+    requires { Ascends (values pairs.old.items) }
+    ensures { values pairs.new.items ≡ without (values pairs.old.items) key.now }
+{
+    let (low, high) = gap(pairs.as_slice(), key);
+    if low < high {
+        pairs.remove(low);
+    }
+}
+
+impl<V: Drop> Leaf<V> {
+    fn of(alloc: Global, pairs: Vec<Arc<Pair<V>>>) -> Result<Leaf<V>, Memory>
+        ensures { IfOk result (λ made. made ≡ values pairs.items) }
+    {
+        Ok(Leaf {
+            pairs: Arc::new(alloc, pairs)?,
+        })
+    }
+
+    /// A leaf of one pair.
+    pub(crate) fn one(alloc: Global, pair: Arc<Pair<V>>) -> Result<Leaf<V>, Memory>
+        ensures { IfOk result (λ made. made ≡ pair.value ∷ []) }
+    {
+        let mut pairs = Vec::new(alloc);
+        pairs.push(pair)?;
+        Leaf::of(alloc, pairs)
+    }
+
+    /// The same leaf once more.
+    pub(crate) fn share(&self) -> Result<Leaf<V>, Memory>
+        ensures { IfOk result (λ made. made ≡ self.now) }
+    {
+        Ok(Leaf {
+            pairs: Arc::try_clone(&self.pairs)?,
+        })
+    }
+
+    /// Whether it has no pair.
+    pub(crate) fn is_empty(&self) -> bool
+        ensures { result ≡ (length self.now == 0) }
+    {
+        self.pairs.is_empty()
+    }
+
+    /// How the first key stands to a key.
+    pub(crate) fn start(&self, key: &Key) -> Ordering
+        ensures { result ≡ start_cmp self.now key.now }
+    {
+        match self.pairs.first() {
+            None => Ordering::Less,
+            Some(pair) => cmp_key(&pair.key, key),
+        }
+    }
+
+    /// The pairs.
+    pub(crate) fn pairs(&self) -> &[Arc<Pair<V>>]
+        ensures { values result.now ≡ self.now }
+    {
+        self.pairs.as_slice()
+    }
+
+    /// The pairs from a key on.
+    pub(crate) fn from(&self, key: &Key) -> &[Arc<Pair<V>>]
+        requires { Ascends self.now }
+        ensures { values result.now ≡ from_key self.now key.now }
+    {
+        let pairs = self.pairs.as_slice();
+        let (low, _) = gap(pairs, key);
+        &pairs[low..]
+    }
+
+    /// The value of a key.
+    pub(crate) fn get(&self, key: &Key) -> Option<&V>
+        requires { Ascends self.now }
+        ensures { option_copied result ≡ value_at self.now key.now }
+    {
+        let pairs = self.pairs.as_slice();
+        let (low, high) = gap(pairs, key);
+        if low < high {
+            Some(&pairs[low].value)
+        } else {
+            None
+        }
+    }
+
+    /// Its two halves, where it is full.
+    pub(crate) fn halves(&self, alloc: Global) -> Result<Option<(Leaf<V>, Leaf<V>)>, Memory>
+        ensures { IfOk result (λ made. IfSome made (λ halves. AreHalves self.now halves.0 halves.1)) }
+    {
+        let pairs = self.pairs.as_slice();
+        if pairs.len() <= MOST {
+            return Ok(None);
+        }
+        let middle = pairs.len() / 2;
+        let front = Leaf::of(alloc, shares(alloc, &pairs[..middle])?)?;
+        let back = Leaf::of(alloc, shares(alloc, &pairs[middle..])?)?;
+        Ok(Some((front, back)))
+    }
+
+    /// One leaf of this one and the next, where both are small.
+    pub(crate) fn merged(&self, alloc: Global, next: &Leaf<V>) -> Result<Option<Leaf<V>>, Memory>
+        ensures { IfOk result (λ made. IfSome made (λ leaf. leaf ≡ self.now ++ next.now)) }
+    {
+        if self.pairs.len().saturating_add(next.pairs.len()) > FEW {
+            return Ok(None);
+        }
+        let mut made = shares(alloc, self.pairs.as_slice())?;
+        push_shares(&mut made, next.pairs.as_slice())?;
+        Ok(Some(Leaf::of(alloc, made)?))
+    }
+
+    /// Puts a pair in the place of its key, in place where nobody else holds the leaf.
+    pub(crate) fn put(&mut self, alloc: Global, pair: Arc<Pair<V>>) -> Result<(), Memory>
+        requires { Ascends self.old }
+        ensures ok { OnOk result (self.new ≡ with_pair self.old pair.value) }
+        ensures err { OnErr result (self.new ≡ self.old) }
+    {
+        match Arc::get_mut(&mut self.pairs) {
+            Some(pairs) => put_pair(pairs, pair),
+            None => {
+                let mut pairs = shares(alloc, self.pairs.as_slice())?;
+                put_pair(&mut pairs, pair)?;
+                self.pairs = Arc::new(alloc, pairs)?;
+                Ok(())
+            }
+        }
+    }
+
+    /// Takes the pair of a key away, in place where nobody else holds the leaf.
+    pub(crate) fn take(&mut self, alloc: Global, key: &Key) -> Result<(), Memory>
+        requires { Ascends self.old }
+        ensures ok { OnOk result (self.new ≡ without self.old key.now) }
+        ensures err { OnErr result (self.new ≡ self.old) }
+    {
+        match Arc::get_mut(&mut self.pairs) {
+            Some(pairs) => {
+                take_pair(pairs, key);
+                Ok(())
+            }
+            None => {
+                let mut pairs = shares(alloc, self.pairs.as_slice())?;
+                take_pair(&mut pairs, key);
+                self.pairs = Arc::new(alloc, pairs)?;
+                Ok(())
+            }
+        }
+    }
+}
