@@ -1,14 +1,13 @@
 -- The steps of a search in a leaf, and what it finds.
-use Rattle.std.proofs.Common.{◌≡◌, ℕ, ◌+◌, ◌<◌, List, [], ◌∷◌, ◌++◌, length, take, drop, get_or, set, map, filter, find, Option, None, Some, option_map, refl, sym, ap, ap₂, ◌∙◌, subst, inl, inr, ◌⊎◌, take-append-drop, append-nil, length-take, length-drop, arith}
+use Rattle.std.proofs.Common.{◌≡◌, ℕ, ◌+◌, ◌<◌, List, [], ◌∷◌, ◌++◌, length, take, drop, get_or, set, filter, None, Some, refl, sym, ap, ap₂, ◌∙◌, subst, inl, inr, ◌⊎◌, take-append-drop, append-nil, length-take, length-drop, arith}
 use Rattle.std.proofs.lemmas.List.{map-append, get_or_read, length-map}
-use Rattle.std.specs.Ordering.{is_lt, is_eq, is_gt}
 use Rattle.std.specs.declared.cmp.Ordering.{Ordering}
 use Rattle.std.specs.declared.cmp.Ordering.TheVariants.{Less, Equal, Greater}
 use Rattle.std.specs.declared.sync.Arc.{Arc}
 use Rattle.ct_types.specs.Order.{key_cmp}
 use Rattle.ct_types.specs.declared.value.Key.{Key}
 use Rattle.ct_ptree.specs.declared.pair.Pair.{Pair}
-use Rattle.ct_ptree.specs.Pairs.{Ascends, AllBelow, AllAbove, is_below, is_above, is_at, value_at, with_pair, without, values, from_key, IsFoundAt}
+use Rattle.ct_ptree.specs.Pairs.{Ascends, AllBelow, AllAbove, is_below, is_above, value_at, with_pair, without, values, from_key, IsFoundAt}
 use Rattle.ct_ptree.proofs.Lists.{all_append, split_at, drop_at, take_at, set_split}
 use Rattle.ct_ptree.proofs.Rising.{ascends_back, below_front, above_rest}
 use Rattle.ct_ptree.proofs.Around.{lows_around, highs_around, at_around, rest_around}

@@ -1,8 +1,8 @@
 -- The steps of a search among the lists of a level, and what one of them in another's place makes of the whole.
 use Rattle.std.specs.Prelude.{◌==◌}
 use Rattle.std.proofs.lemmas.Bool.Decides.{nat_tests}
-use Rattle.std.proofs.Common.{◌≡◌, false, ℕ, zero, suc, ◌+◌, ◌-◌, ◌*◌, ◌<◌, ◌≤◌, List, [], ◌∷◌, ◌++◌, length, take, drop, get_or, set, refl, sym, ap, ap₂, ◌∙◌, subst, inl, inr, ◌⊎◌, append_assoc, append-nil, arith, length-append, length-take, length-drop, take-append-drop}
-use Rattle.std.specs.List.{AllByRecursion, flat_map, insert, remove}
+use Rattle.std.proofs.Common.{◌≡◌, false, ℕ, zero, suc, ◌+◌, ◌-◌, ◌*◌, ◌<◌, ◌≤◌, List, [], ◌∷◌, ◌++◌, length, take, drop, get_or, set, refl, sym, ap, ap₂, ◌∙◌, subst, inl, inr, ◌⊎◌, append_assoc, arith, length-append, length-take, length-drop, take-append-drop}
+use Rattle.std.specs.List.{insert, remove}
 use Rattle.std.proofs.lemmas.List.{set_at, set-get_or, take-set, drop-set-lt}
 use Rattle.std.proofs.lemmas.List.Concat.{flat_map-append}
 use Rattle.std.specs.declared.cmp.Ordering.TheVariants.{Less, Equal, Greater}
@@ -10,7 +10,7 @@ use Rattle.ct_types.specs.Order.{key_cmp}
 use Rattle.ct_types.specs.declared.value.Key.{Key}
 use Rattle.ct_ptree.specs.declared.pair.Pair.{Pair}
 use Rattle.ct_ptree.specs.Pairs.{Ascends, AllBelow, AllAbove, AreFilled, AreHalves, joined, start_cmp, value_at, with_pair, without, from_key}
-use Rattle.ct_ptree.proofs.Lists.{all_append, all_front, all_back, split_at, drop_at, take_at, set_split}
+use Rattle.ct_ptree.proofs.Lists.{all_append, all_front, all_back, split_at, drop_at, set_split}
 use Rattle.ct_ptree.proofs.Rising.{ascends_front, ascends_back, below_front, above_rest}
 use Rattle.ct_ptree.proofs.Around.{at_around, with_around, without_around, rest_around}
 

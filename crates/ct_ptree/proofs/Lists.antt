@@ -1,5 +1,5 @@
 -- What holds of each member of a list, filters and searches that keep all or nothing, and a list around one of its places.
-use Rattle.std.proofs.Common.{◌≡◌, ℕ, ◌+◌, ◌<◌, Bool, true, false, cond, List, [], ◌∷◌, ◌++◌, length, take, drop, get_or, set, filter, find, Option, None, Some, refl, sym, ap, ap₂, ◌∙◌, take-append-drop}
+use Rattle.std.proofs.Common.{◌≡◌, ℕ, ◌+◌, ◌<◌, Bool, true, false, cond, List, [], ◌∷◌, ◌++◌, length, take, drop, get_or, set, filter, find, None, refl, sym, ap, ap₂, ◌∙◌, take-append-drop}
 use Rattle.std.specs.List.{AllByRecursion}
 use Rattle.std.proofs.lemmas.List.{drop_more, take_more, take-set, drop-set}
 

@@ -67,11 +67,11 @@ fn push_shares<V: Drop>(made: &mut Vec<Leaf<V>>, leaves: &[Leaf<V>]) -> Result<(
     Ok(())
 }
 
-/// A list of shares of leaves, with room for one more.
+/// A list of shares of leaves, with room for the most that there may be.
 fn shares<V: Drop>(alloc: Global, leaves: &[Leaf<V>]) -> Result<Vec<Leaf<V>>, Memory>
     ensures { IfOk result (λ made. made.items ≡ leaves.now) }
 {
-    let mut made = Vec::with_capacity(alloc, leaves.len().saturating_add(1))?;
+    let mut made = Vec::with_capacity(alloc, MOST + 1)?;
     push_shares(&mut made, leaves)?;
     Ok(made)
 }

@@ -66,11 +66,11 @@ fn push_shares<V: Drop>(made: &mut Vec<Arc<Pair<V>>>, pairs: &[Arc<Pair<V>>]) ->
     Ok(())
 }
 
-/// A list of shares of pairs, with room for one more.
+/// A list of shares of pairs, with room for the most that there may be.
 fn shares<V: Drop>(alloc: Global, pairs: &[Arc<Pair<V>>]) -> Result<Vec<Arc<Pair<V>>>, Memory>
     ensures { IfOk result (λ made. values made.items ≡ values pairs.now) }
 {
-    let mut made = Vec::with_capacity(alloc, pairs.len().saturating_add(1))?;
+    let mut made = Vec::with_capacity(alloc, MOST + 1)?;
     push_shares(&mut made, pairs)?;
     Ok(made)
 }

@@ -211,6 +211,13 @@ impl<V: Drop> Root<V> {
         self.branches.as_slice().is_empty()
     }
 
+    /// The branches.
+    pub(crate) fn branches(&self) -> &[Branch<V>]
+        ensures { joined result.now ≡ self.now }
+    {
+        self.branches.as_slice()
+    }
+
     /// The pairs from a key on.
     pub(crate) fn range(&self, from: &Key) -> Range<'_, V>
         requires rising { Ascends self.now }

@@ -92,6 +92,17 @@ impl<V: Drop> Tree<V> {
         }
     }
 
+    /// All pairs, in rising order of keys.
+    pub fn pairs(&self) -> Range<'_, V>
+        ensures all { result ≡ self.now }
+        ensures rising { Ascends self.now }
+    {
+        match &self.root {
+            None => Range::of(&[], &[], &[]),
+            Some(root) => Range::of(&[], &[], root.branches()),
+        }
+    }
+
     /// The pairs from a key on, in rising order of keys.
     pub fn range(&self, from: &Key) -> Range<'_, V>
         ensures { result ≡ from_key self.now from.now }

@@ -1,4 +1,4 @@
-use Rattle.std.proofs.Common.{◌≡◌, ◌+◌, [], get_or, set, ap, ◌∙◌}
+use Rattle.std.proofs.Common.{◌+◌, [], get_or, set, ap, ◌∙◌}
 use Rattle.std.proofs.lemmas.List.{get_or_default}
 use Rattle.ct_ptree.specs.Pairs.{joined}
 use Rattle.ct_ptree.proofs.Levels.{level_halved}

@@ -1,5 +1,4 @@
-use Rattle.std.proofs.Common.{◌≡◌, ◌+◌, ◌<◌, drop, length, filter, arith}
-use Rattle.ct_ptree.specs.Pairs.{values, is_below, is_above}
+use Rattle.std.proofs.Common.{◌≡◌, ◌+◌, arith}
 use Rattle.ct_ptree.proofs.Gaps.{put_there}
 use Rattle.ct_ptree.proofs.leaf.put_pair.Goals as goal
 

@@ -1,4 +1,4 @@
-use Rattle.std.proofs.Common.{◌≡◌, ◌+◌, set, ap, ◌∙◌, arith}
+use Rattle.std.proofs.Common.{set, ap, ◌∙◌, arith}
 use Rattle.ct_ptree.specs.Pairs.{joined}
 use Rattle.ct_ptree.proofs.Levels.{level_merged}
 use Rattle.ct_ptree.proofs.root.merge.Goals as goal

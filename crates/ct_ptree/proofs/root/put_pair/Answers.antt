@@ -1,5 +1,5 @@
-use Rattle.std.proofs.Common.{◌≡◌, ap, ◌∙◌}
-use Rattle.ct_ptree.specs.Pairs.{Ascends, joined, with_pair}
+use Rattle.std.proofs.Common.{ap, ◌∙◌}
+use Rattle.ct_ptree.specs.Pairs.{with_pair}
 use Rattle.ct_ptree.proofs.Levels.{rising_at, level_put}
 use Rattle.ct_ptree.proofs.root.put_pair.Goals as goal
 

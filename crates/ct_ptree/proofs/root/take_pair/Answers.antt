@@ -1,4 +1,4 @@
-use Rattle.std.proofs.Common.{◌≡◌, ap, ◌∙◌}
+use Rattle.std.proofs.Common.{◌∙◌}
 use Rattle.ct_ptree.proofs.Levels.{rising_at, level_take, others_filled}
 use Rattle.ct_ptree.proofs.root.take_pair.Goals as goal
 

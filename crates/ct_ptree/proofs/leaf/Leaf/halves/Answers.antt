@@ -1,6 +1,6 @@
 use Rattle.std.proofs.Common.{◌≡◌, ◌-◌, ◌/◌, length, take, drop, ◌∙◌, ap, arith}
 use Rattle.std.proofs.lemmas.Grind.{common_steps}
-use Rattle.ct_ptree.specs.Pairs.{values, AreHalves}
+use Rattle.ct_ptree.specs.Pairs.{values}
 use Rattle.ct_ptree.proofs.Gaps.{halves}
 use Rattle.ct_ptree.proofs.leaf.Leaf.halves.Goals as goal
 

@@ -1,5 +1,5 @@
 use Rattle.std.specs.Prelude.{◌==◌}
-use Rattle.std.proofs.Common.{◌≡◌, length, ap, ◌∙◌}
+use Rattle.std.proofs.Common.{length, ap, ◌∙◌}
 use Rattle.ct_ptree.proofs.Levels.{level_empty}
 use Rattle.ct_ptree.proofs.root.Root.is_empty.Goals as goal
 
