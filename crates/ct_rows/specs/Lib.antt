@@ -1,0 +1,2 @@
+pub mod Prunes
+pub mod Versions
