@@ -22,8 +22,12 @@ mod printing;
 #[cfg(test)]
 mod queries;
 #[cfg(test)]
+mod row_versions;
+#[cfg(test)]
 mod runs;
 #[cfg(test)]
 mod scripts;
+#[cfg(test)]
+mod trees;
 #[cfg(test)]
 mod writes;

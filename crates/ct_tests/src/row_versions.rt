@@ -35,22 +35,50 @@ fn written(alloc: Global) -> Result<Rows, Memory> {
     Ok(rows)
 }
 
+/// What each call answers of one key at a view.
+fn answers(
+    alloc: Global,
+    rows: &Rows,
+    view: u64,
+    number: i64,
+) -> Result<(bool, Option<u64>), Memory> {
+    let key = key(alloc, number)?;
+    Ok((
+        rows.at(view, &key).is_some(),
+        rows.written_after(view, &key),
+    ))
+}
+
 #[test]
-fn each_call_of_rows(rt: HostRuntime) -> Result<(), Fail> {
+fn rows_at_views(rt: HostRuntime) -> Result<(), Fail> {
     let alloc = rt.alloc();
     let mut rows = written(alloc)?;
     let share = rows.share()?;
     rows.prune(5)?;
-    assert_eq!(rt; numbers(&share, alloc, 0)?.as_slice(), [].as_slice());
-    assert_eq!(rt; numbers(&share, alloc, 2)?.as_slice(), [21].as_slice());
-    assert_eq!(rt; numbers(&rows, alloc, 5)?.as_slice(), [14, 23].as_slice());
-    assert_eq!(rt; numbers(&rows, alloc, 7)?.as_slice(), [14, 26].as_slice());
-    assert_eq!(rt; rows.scan(8)?.as_slice().len(), 1);
-    assert!(rt; rows.at(7, &key(alloc, 2)?).is_some());
-    assert!(rt; rows.at(8, &key(alloc, 2)?).is_none());
-    assert_eq!(rt; rows.written_after(7, &key(alloc, 2)?), Some(18));
-    assert_eq!(rt; rows.written_after(8, &key(alloc, 2)?), None);
-    rows.prune(8)?;
-    assert_eq!(rt; numbers(&rows, alloc, 8)?.as_slice(), [14].as_slice());
+    for (rows, view, want) in [
+        (&share, 0, [].as_slice()),
+        (&share, 2, [21].as_slice()),
+        (&rows, 5, [14, 23].as_slice()),
+        (&rows, 7, [14, 26].as_slice()),
+        (&rows, 8, [14].as_slice()),
+    ] {
+        assert_eq!(rt; numbers(rows, alloc, view)?.as_slice(), want);
+        assert_eq!(rt; rows.scan(view)?.as_slice().len(), want.len());
+    }
+    Ok(())
+}
+
+#[test]
+fn keys_at_views(rt: HostRuntime) -> Result<(), Fail> {
+    let alloc = rt.alloc();
+    let rows = written(alloc)?;
+    for (view, number, want) in [
+        (7, 2, (true, Some(18))),
+        (8, 2, (false, None)),
+        (0, 1, (false, Some(14))),
+        (4, 1, (true, None)),
+    ] {
+        assert_eq!(rt; answers(alloc, &rows, view, number)?, want);
+    }
     Ok(())
 }

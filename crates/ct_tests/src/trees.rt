@@ -37,37 +37,50 @@ fn total(tree: &Tree<u64>) -> u64 {
     sum
 }
 
-#[test]
-fn each_call_of_a_tree(rt: HostRuntime) -> Result<(), Fail> {
-    let alloc = rt.alloc();
-    let two = Tree::new(alloc)
-        .insert(key(alloc, 2)?, 20)?
-        .insert(key(alloc, 1)?, 10)?;
+/// A tree of two pairs, what changes in place made of a share of it, and that without one more key.
+fn changed(alloc: Global) -> Result<[Tree<u64>; 3], Memory> {
+    let one = Tree::new(alloc).insert(key(alloc, 2)?, 20)?;
+    let two = one.insert(key(alloc, 1)?, 10)?;
     let mut tree = two.share()?;
     tree.put(key(alloc, 3)?, 30)?;
     tree.put(key(alloc, 2)?, 21)?;
     tree.take(&key(alloc, 1)?)?;
-    let one = tree.remove(&key(alloc, 3)?)?;
-    assert_eq!(rt; values(alloc, &two, 0)?.as_slice(), [10, 20].as_slice());
-    assert_eq!(rt; values(alloc, &tree, 0)?.as_slice(), [21, 30].as_slice());
-    assert_eq!(rt; values(alloc, &tree, 3)?.as_slice(), [30].as_slice());
-    assert_eq!(rt; values(alloc, &one, 0)?.as_slice(), [21].as_slice());
-    assert_eq!(rt; tree.get(&key(alloc, 2)?).copied(), Some(21));
-    assert_eq!(rt; tree.get(&key(alloc, 1)?).copied(), None);
+    let less = tree.remove(&key(alloc, 3)?)?;
+    Ok([two, tree, less])
+}
+
+#[test]
+fn each_call_of_a_tree(rt: HostRuntime) -> Result<(), Fail> {
+    let alloc = rt.alloc();
+    let [two, tree, less] = changed(alloc)?;
+    for (tree, from, want) in [
+        (&two, 0, [10, 20].as_slice()),
+        (&tree, 0, [21, 30].as_slice()),
+        (&tree, 3, [30].as_slice()),
+        (&less, 0, [21].as_slice()),
+    ] {
+        assert_eq!(rt; values(alloc, tree, from)?.as_slice(), want);
+    }
     Ok(())
+}
+
+/// The tree with all keys below a number but one taken away.
+fn thinned(alloc: Global, mut tree: Tree<u64>, to: i64, kept: i64) -> Result<Tree<u64>, Memory> {
+    for number in 0..to {
+        if number != kept {
+            tree.take(&key(alloc, number)?)?;
+        }
+    }
+    Ok(tree)
 }
 
 #[test]
 fn all_keys_but_one_removed(rt: HostRuntime) -> Result<(), Fail> {
     let alloc = rt.alloc();
-    let mut tree = grown(alloc, Tree::new(alloc), 0, 500)?;
-    for number in 0..500 {
-        if number != 321 {
-            tree.take(&key(alloc, number)?)?;
-        }
-    }
-    assert_eq!(rt; total(&tree), 1);
+    let tree = grown(alloc, Tree::new(alloc), 0, 500)?;
+    let tree = thinned(alloc, tree, 500, 321)?;
     assert_eq!(rt; tree.get(&key(alloc, 321)?).copied(), Some(1));
+    assert_eq!(rt; total(&tree), 1);
     Ok(())
 }
 
