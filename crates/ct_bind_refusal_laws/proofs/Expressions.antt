@@ -37,15 +37,15 @@ use Rattle.ct_types.proofs.AnswersCaused.{Caused, ok_caused, err_caused, then_ca
 use Rattle.ct_types.proofs.AnswersTaken.{steps, same_Ok, each_after_length}
 use Rattle.ct_types.proofs.Lists.{all_everywhere}
 
--- no variable of the name was found, so none is declared
-undeclared_step : (found : Bool) (at : ℕ × ColType) (rest : Option (ℕ × ColType)) (more : Bool) → cond found (Some at) rest ≡ None → (rest ≡ None → more ≡ false) → (found || more) ≡ false
-undeclared_step true at rest more e go = absurd cc
-undeclared_step false at rest more e go = go e
+-- a variable of the name is declared where one is found
+found_or_more : (found : Bool) (at : ℕ × ColType) (rest : Option (ℕ × ColType)) (more : Bool) → more ≡ is_some rest → (found || more) ≡ is_some (cond found (Some at) rest)
+found_or_more true at rest more e = refl
+found_or_more false at rest more e = e
 
-undeclared : (name : List ℕ) (at : ℕ) (variables : List Variable) → variable_from name at variables ≡ None → is_declared variables name ≡ false
+pub declared_is : (name : List ℕ) (at : ℕ) (variables : List Variable) → is_declared variables name ≡ is_some (variable_from name at variables)
 unfolding variable_from is_declared
-undeclared name at [] e = refl
-undeclared name at (variable ∷ more) e = undeclared_step (same variable.name name) (at, variable.kind) (variable_from name (at + 1) more) (is_declared more name) e (undeclared name (at + 1) more)
+declared_is name at [] = refl
+declared_is name at (variable ∷ more) = found_or_more (same variable.name name) (at, variable.kind) (variable_from name (at + 1) more) (is_declared more name) (declared_is name (at + 1) more)
 
 pub differ : (got wanted : ℕ) → (got == wanted) ≡ false → wanted ≢ got
 differ got wanted e same = let t : (got == wanted) ≡ true = eq-eqb got wanted (sym same) in cc
@@ -96,7 +96,7 @@ module _ (tables : List Catalogued) (variables : List Variable) (mentioned : Lis
 
   pub variable_explained : (name : List ℕ) → Contains mentioned (OfVariable name) → IsExplained (declared_variable variables name)
   unfolding declared_variable
-  variable_explained name is = or_caused _ (NoVariable name) (λ none. (is, undeclared name 0 variables none))
+  variable_explained name is = or_caused _ (NoVariable name) (λ none. (is, declared_is name 0 variables ∙ ap (λ o. is_some o) none))
 
   -- ---- kinds and columns
 

@@ -1,5 +1,5 @@
 -- Where a statement is bound, what it mentions is met: tables and variables are there, numbers fit, and tuples are as long as is wanted.
-use Rattle.std.proofs.Common.{◌≡◌, ℕ, ◌+◌, Bool, true, false, ◌||◌, ◌==◌, List, [], ◌∷◌, ◌++◌, length, Option, Some, IsSome, is_some, cond, refl, sym, ◌∙◌, subst, eqb-true, arith}
+use Rattle.std.proofs.Common.{◌≡◌, ℕ, ◌+◌, ◌==◌, List, [], ◌∷◌, ◌++◌, length, Option, Some, IsSome, is_some, sym, ◌∙◌, subst, eqb-true, arith}
 use Rattle.std.specs.List.{AllByRecursion}
 use Rattle.std.specs.Option.{IsSomeAnd}
 use Rattle.ct_types.proofs.Lists.{all_append}
@@ -7,7 +7,6 @@ use Rattle.ct_types.specs.declared.catalogue.Catalogued.{Catalogued}
 use Rattle.ct_types.specs.declared.catalogue.Variable.{Variable}
 use Rattle.ct_types.specs.declared.expr.ObjectName.{ObjectName}
 use Rattle.ct_types.specs.declared.refusal.Refusal.TheVariants.{NoObject, NotTracked, NoVariable, Overflow, CountClash}
-use Rattle.ct_types.specs.declared.schema.ColType.{ColType}
 use Rattle.ct_types.specs.declared.schema.Schema.{Schema}
 use Rattle.ct_types.specs.declared.stmt.Stmt.{Stmt}
 use Rattle.ct_bind_kinds.specs.declared.kind.Kind.{Kind}
@@ -15,14 +14,14 @@ use Rattle.ct_bind_kinds.specs.declared.kind.Kind.TheVariants.{Number}
 use Rattle.ct_types.specs.Answers.{Answer, each}
 use Rattle.ct_bind_names.specs.Numbers.{within, literal}
 use Rattle.ct_bind_names.specs.Names.{same, table_name}
-use Rattle.ct_bind_names.specs.Catalogue.{table_named, existing_table, tracked_table, variable_from, declared_variable, is_declared}
+use Rattle.ct_bind_names.specs.Catalogue.{table_named, existing_table, tracked_table, variable_from, declared_variable}
 use Rattle.ct_bind_expr.specs.declared.place.Place.{Place}
 use Rattle.ct_bind_expr.specs.Versions.{Walk, operand, values, tuple, key_columns, listed_kinds, version_of}
 use Rattle.ct_bind_expr.specs.Walk as expr
 use Rattle.ct_bind_expr.specs.Walk.{TermWalk, two, both_of_kind, chain, further_term, sum}
 use Rattle.ct_bind_refusal_laws.specs.Mentions.{Mention, OfTable, OfTracked, OfSource, OfVariable, OfNumber, OfTuple, of_table, of_tracked, of_each}
 use Rattle.ct_bind_refusal_laws.specs.Causes.{HasTable, HasTracked, HasVariable, IsNoSource, IsWanted}
-use Rattle.ct_bind_refusal_laws.proofs.Expressions.{kinds_length}
+use Rattle.ct_bind_refusal_laws.proofs.Expressions.{kinds_length, declared_is}
 use Rattle.ct_bind_refusal_laws.proofs.Passed.{Passed, anyway, also, first_passed, next_passed, both_passed, met_passed, or_passed, found_passed}
 
 -- each of one list with that of the other list that stands at its place
@@ -31,16 +30,6 @@ Pairs R [] [] = Unit {0}
 Pairs R (x ∷ xs) (y ∷ ys) = R x y × Pairs R xs ys
 Pairs R [] (y ∷ ys) = ⊥
 Pairs R (x ∷ xs) [] = ⊥
-
--- a variable of the name was found, so one is declared
-declared_step : (found : Bool) (at : ℕ × ColType) (rest : Option (ℕ × ColType)) (more : Bool) → IsSome (cond found (Some at) rest) → (IsSome rest → more ≡ true) → (found || more) ≡ true
-declared_step true at rest more e go = refl
-declared_step false at rest more e go = go e
-
-declared : (name : List ℕ) (at : ℕ) (variables : List Variable) → IsSome (variable_from name at variables) → is_declared variables name ≡ true
-unfolding variable_from is_declared
-declared name at [] e = absurd cc
-declared name at (variable ∷ more) e = declared_step (same variable.name name) (at, variable.kind) (variable_from name (at + 1) more) (is_declared more name) e (declared name (at + 1) more)
 
 module _ (tables : List Catalogued) (variables : List Variable) (statement : Stmt) where
   -- what a statement that is bound has for each mention
@@ -88,7 +77,7 @@ module _ (tables : List Catalogued) (variables : List Variable) (statement : Stm
 
   pub variable_meets : (name : List ℕ) → Meets (OfVariable name ∷ []) (declared_variable variables name)
   unfolding declared_variable
-  variable_meets name = also _ (λ some. (declared name 0 variables some, tt)) (or_passed (variable_from name 0 variables) (NoVariable name))
+  variable_meets name = also _ (λ some. (declared_is name 0 variables ∙ some, tt)) (or_passed (variable_from name 0 variables) (NoVariable name))
 
   pub variable_typed_meets : (name : List ℕ) → Meets (OfVariable name ∷ []) (expr.variable tables variables name)
   unfolding expr.variable

@@ -15,7 +15,7 @@ use Rattle.ct_bind_definition.specs.Definitions.{keys_written, is_there, is_repe
 use Rattle.ct_bind_refusal_laws.specs.Causes.{has_length, is_one_column, rules}
 use Rattle.ct_bind_refusal_laws.proofs.Passed.{Passed, anyway, next_passed, met_passed}
 use Rattle.ct_types.proofs.AnswersCaused.{Caused, ok_caused, err_caused, weaker, then_caused, after_caused, demand_caused, met_caused, or_caused}
-use Rattle.ct_types.proofs.AnswersTaken.{steps}
+use Rattle.ct_types.proofs.AnswersTaken.{steps, there}
 
 -- ---- one rule
 
@@ -56,8 +56,7 @@ type_caused (type.NVarChar digits) = then_caused _ _ (or_caused _ (BadTable 4) (
 type_caused (type.VarBinary digits) = then_caused _ _ (or_caused _ (BadTable 4) (λ none. (refl, ap (λ o. is_some o) none))) (λ n. ok_caused _)
 
 some_length : {A : Type 0} (o : Option ℕ) (refusal : Refusal) (next : ℕ → Answer A) (a : A) → (or_refuse o refusal >>= next) ≡ Ok a → is_some o ≡ true
-some_length (Some n) refusal next a e = refl
-some_length None refusal next a e = absurd cc
+some_length o refusal next a e = let it = steps (or_refuse o refusal) next a e in ap (λ o. is_some o) (there o refusal it.came it.is)
 
 pub length_kept : (type : TypeName) (made : ColType) → column_type type ≡ Ok made → has_length type ≡ true
 unfolding column_type
@@ -93,14 +92,10 @@ key_caused columns [] = err_caused (BadTable 5) (refl, refl)
 key_caused columns (name ∷ []) = or_caused _ (BadTable 5) (λ none. (refl, ap (λ o. is_some o) none))
 key_caused columns (name ∷ other ∷ more) = err_caused (BadTable 5) (refl, refl)
 
-or_kept : (o : Option ℕ) (refusal : Refusal) (own : ℕ) → or_refuse o refusal ≡ Ok own → is_some o ≡ true
-or_kept (Some n) refusal own e = refl
-or_kept None refusal own e = absurd cc
-
 key_kept : (columns : List ColumnDef) (names : List (List ℕ)) (own : ℕ) → key_id columns names ≡ Ok own → is_one_column columns names ≡ true
 unfolding key_id
 key_kept columns [] own e = absurd cc
-key_kept columns (name ∷ []) own e = or_kept (id_from name 1 columns) (BadTable 5) own e
+key_kept columns (name ∷ []) own e = ap (λ o. is_some o) (there (id_from name 1 columns) (BadTable 5) own e)
 key_kept columns (name ∷ other ∷ more) own e = absurd cc
 
 -- ---- all rules
