@@ -1,33 +1,11 @@
-//! Tests of the crates below, each named by what it shows. A crate with tests is proved twice, so they stand here.
+//! Tests of runs: of the top call, of scripts and what is printed, and of the outside. A crate with tests is proved twice, so they stand above all others.
 #![tactic(auto)]
 
 #[cfg(test)]
-mod binding;
-#[cfg(test)]
-mod cutting;
-#[cfg(test)]
-mod database;
-#[cfg(test)]
-mod expressions;
-#[cfg(test)]
-mod masks;
-#[cfg(test)]
-mod object_names;
-#[cfg(test)]
 mod outside;
 #[cfg(test)]
-mod parsing;
-#[cfg(test)]
 mod printing;
-#[cfg(test)]
-mod queries;
-#[cfg(test)]
-mod row_versions;
 #[cfg(test)]
 mod runs;
 #[cfg(test)]
 mod scripts;
-#[cfg(test)]
-mod trees;
-#[cfg(test)]
-mod writes;
