@@ -38,7 +38,7 @@ fn total(tree: &Tree<u64>) -> u64 {
 }
 
 /// A tree of two pairs, what changes in place made of a share of it, and that without one more key.
-fn changed(alloc: Global) -> Result<[Tree<u64>; 3], Memory> {
+fn changed(alloc: Global) -> Result<(Tree<u64>, Tree<u64>, Tree<u64>), Memory> {
     let one = Tree::new(alloc).insert(key(alloc, 2)?, 20)?;
     let two = one.insert(key(alloc, 1)?, 10)?;
     let mut tree = two.share()?;
@@ -46,13 +46,13 @@ fn changed(alloc: Global) -> Result<[Tree<u64>; 3], Memory> {
     tree.put(key(alloc, 2)?, 21)?;
     tree.take(&key(alloc, 1)?)?;
     let less = tree.remove(&key(alloc, 3)?)?;
-    Ok([two, tree, less])
+    Ok((two, tree, less))
 }
 
 #[test]
 fn each_call_of_a_tree(rt: HostRuntime) -> Result<(), Fail> {
     let alloc = rt.alloc();
-    let [two, tree, less] = changed(alloc)?;
+    let (two, tree, less) = changed(alloc)?;
     for (tree, from, want) in [
         (&two, 0, [10, 20].as_slice()),
         (&tree, 0, [21, 30].as_slice()),
