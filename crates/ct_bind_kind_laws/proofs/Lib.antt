@@ -12,3 +12,4 @@ pub mod Joins
 pub mod Selecting
 pub mod Binding
 pub mod Sound
+pub mod Storing

@@ -217,7 +217,7 @@ first_or_later first table tables true later other more e =
 first_or_later first table tables false later other more e = later_stands tables first table (nat_eq first.schema.id table.schema.id) refl (other e) (more e)
 
 -- a table that is found stands in the catalogue with its id
-stands : (test : Catalogued → Bool) (tables : List Catalogued) (table : Catalogued) → IsDistinct nat_eq (map (λ table. table.schema.id) tables) → find test tables ≡ Some table
+pub stands : (test : Catalogued → Bool) (tables : List Catalogued) (table : Catalogued) → IsDistinct nat_eq (map (λ table. table.schema.id) tables) → find test tables ≡ Some table
     → catalogued_of tables table.schema.id ≡ Some table
 unfolding IsDistinct
 stands test [] table distinct e = absurd cc

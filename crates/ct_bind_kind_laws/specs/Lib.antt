@@ -1,3 +1,4 @@
 pub mod Statements
 pub mod Queries
 pub mod Laws
+pub mod Storing

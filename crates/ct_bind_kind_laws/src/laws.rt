@@ -1,4 +1,5 @@
 ghost use Rattle.ct_bind_kind_laws.specs.Laws.{BoundAreWellFormed, ValidAreSound, WalkedAreWellFormed};
+ghost use Rattle.ct_bind_kind_laws.specs.Storing.{BoundStoreWell};
 
 /// The tables of a valid database are sound: they have distinct ids, and each has a key.
 pub fn valid_are_sound()
@@ -17,4 +18,10 @@ pub fn walked_are_well_formed()
 /// CREATE TABLE and ALTER DATABASE have laws of their own.
 pub fn bound_are_well_formed()
     ensures { BoundAreWellFormed }
+{}
+
+/// Among tables of different ids an UPDATE sets no column of its table's key, and a table that is created has the next id and
+/// a key of its own columns.
+pub fn bound_store_well()
+    ensures { BoundStoreWell }
 {}

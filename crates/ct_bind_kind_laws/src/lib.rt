@@ -3,4 +3,4 @@
 
 mod laws;
 
-pub use laws::{bound_are_well_formed, valid_are_sound, walked_are_well_formed};
+pub use laws::{bound_are_well_formed, bound_store_well, valid_are_sound, walked_are_well_formed};

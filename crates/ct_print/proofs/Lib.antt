@@ -1,3 +1,4 @@
 pub mod Appends
 pub mod Escapes
+pub mod Grows
 pub mod Transcripts

@@ -12,7 +12,7 @@ fn add_head(out: &mut String, place: u64, session: u8, number: u32) -> Result<()
     write!(out, "[{place}] {session}.{number}\n")
 }
 
-fn add_block(out: &mut String, place: u64, entry: &Journaled) -> Result<(), AllocError>
+pub(crate) fn add_block(out: &mut String, place: u64, entry: &Journaled) -> Result<(), AllocError>
     ensures { OnOk result (string_bytes out.new ≡ string_bytes out.old ++ block_text place entry.now) }
 {
     add_head(out, place, entry.session, entry.number)?;

@@ -5,8 +5,10 @@ mod journal;
 mod laws;
 mod refusal;
 mod reply;
+mod transcript;
 mod value;
 
 pub use journal::{print_block, print_run};
 pub use laws::transcripts_go_on;
+pub use transcript::Transcript;
 pub use value::print_value;

@@ -1,10 +1,8 @@
 -- How a play goes on, from one statement and one phase to the next.
-use Rattle.std.proofs.Common.{◌≡◌, ℕ, ◌+◌, ◌<◌, false, List, [], ◌∷◌, ◌++◌, length, get_or, take, sum_by, refl, sym, ap, subst, ◌∙◌, append_assoc, append-nil, arith}
+use Rattle.std.proofs.Common.{◌≡◌, ℕ, ◌+◌, ◌<◌, false, List, [], ◌∷◌, ◌++◌, length, get_or, take, refl, sym, ap, subst, ◌∙◌, append_assoc, append-nil, arith}
 use Rattle.std.specs.List.{flat_map}
 use Rattle.std.proofs.lemmas.Grind.{common_steps, flat_map-append}
 use Rattle.std.proofs.lemmas.List.{take_more}
-use Rattle.std.proofs.lemmas.List.Concat.{length-flat_map}
-use Rattle.std.proofs.lemmas.List.Sums.{sum_by_push}
 use Rattle.ct_model.specs.Apply.{no_db}
 use Rattle.ct_model_laws.proofs.InTurn.{no_db_valid}
 use Rattle.ct_core.specs.Stands.{CoreState, Stands}
@@ -17,10 +15,12 @@ use Rattle.ct_machine.specs.Fits.{RowsFit}
 use Rattle.ct_machine_laws.proofs.Soundness.{opens_sound}
 use Rattle.ct_script.specs.declared.script.Lane.{Lane}
 use Rattle.ct_script.specs.declared.script.Phase.{Phase}
-use Rattle.ct_script.specs.Size.{lane_size, phase_size}
+use Rattle.ct_script.specs.declared.script.Script.{Script}
+use Rattle.ct_print.specs.Growing.{Growing, nothing, with_block, with_journal, with_phase, grown}
+use Rattle.ct_print.proofs.Grows.{grown_push}
 use Rattle.ct_machine_laws.proofs.Keeping.{keeps_sound}
 use Rattle.ct_run.specs.Schedule.{Numbered, numbered_from, numbered_in_lane, numbered_in, IsOf, IsInOrder, AreInOrder}
-use Rattle.ct_run.specs.Steps.{Goes}
+use Rattle.ct_run.specs.Steps.{Goes, HasRun}
 use Rattle.ct_run.specs.Top.{all_of}
 use Rattle.ct_run.proofs.Commands.{means_spelled}
 
@@ -95,23 +95,19 @@ lanes_more lanes i lane inside is =
     ∙ flat_map-append numbered_in_lane (take i lanes) (lane ∷ [])
     ∙ ap (λ l. flat_map numbered_in_lane (take i lanes) ++ l) (append-nil (numbered_in_lane lane))
 
-length-numbered : (session number : ℕ) (texts : List (List ℕ)) → length (numbered_from session number texts) ≡ length texts
-length-numbered session number [] = refl
-length-numbered session number (text ∷ texts) = let rest = length-numbered session (number + 1) texts in omega arith
+-- ---- transcripts
 
-length-numbered_in : (phase : Phase) → length (numbered_in phase) ≡ phase_size phase
-length-numbered_in phase = length-flat_map numbered_in_lane phase.sessions ∙ same phase.sessions
-  where
-    same : (lanes : List Lane) → sum_by (λ lane. length (numbered_in_lane lane)) lanes ≡ sum_by lane_size lanes
-    same lanes = ap (λ (f : Lane → ℕ). sum_by f lanes) (λ i lane. length-numbered lane.session lane.first lane.statements i)
+with_journal-append : (it : Growing) (journal more : List Journaled) → with_journal it (journal ++ more) ≡ with_journal (with_journal it journal) more
+with_journal-append it [] more = refl
+with_journal-append it (one ∷ journal) more = with_journal-append (with_block it one) journal more
 
 -- ---- steps
 
 module _ {D : Type 0} where
-  pub goes_none : (journal : List Journaled) (core : CoreState D) → Goes [] journal journal core core
-  goes_none journal core = record { own = []; added = sym (append-nil journal); in_order = tt; plays = λ m stands. (tt, stands); sound = λ m stands sound. sound }
+  pub goes_none : (made : Growing) (core : CoreState D) → Goes [] made made core core
+  goes_none made core = record { own = []; added = refl; in_order = tt; plays = λ m stands. (tt, stands); sound = λ m stands sound. sound }
 
-  goes_one : (statement : Numbered) (old new : List Journaled) (one : Journaled) (before after : CoreState D) → new ≡ old ++ one ∷ [] → IsOf statement one
+  goes_one : (statement : Numbered) (old new : Growing) (one : Journaled) (before after : CoreState D) → new ≡ with_block old one → IsOf statement one
       → ((m : Machine) → Stands before m → Follows m one.what one.reply) → ((m : Machine) → Stands before m → Stands after (play.after m one.what one.reply))
       → ((m : Machine) → Stands before m → is_memory one.reply ≡ false → RowsFit (db_of m) one.what)
       → Goes (statement ∷ []) old new before after
@@ -123,11 +119,11 @@ module _ {D : Type 0} where
     sound = λ m s sound. (sound, keeps_sound m one.what one.reply sound (means_spelled statement.text one.what is.means) (fits m s));
   }
 
-  pub goes_on : (statements others : List Numbered) (old mid new : List Journaled) (before between after : CoreState D)
+  pub goes_on : (statements others : List Numbered) (old mid new : Growing) (before between after : CoreState D)
       → Goes statements old mid before between → Goes others mid new between after → Goes (statements ++ others) old new before after
   goes_on statements others old mid new before between after here there = record {
     own = here.own ++ there.own;
-    added = there.added ∙ ap (λ l. l ++ there.own) here.added ∙ append_assoc old here.own there.own;
+    added = there.added ∙ ap (λ it. with_journal it there.own) here.added ∙ sym (with_journal-append old here.own there.own);
     in_order = IsInOrder-append statements others here.own there.own here.in_order there.in_order;
     plays = λ m s.
         let first = here.plays m s in
@@ -140,10 +136,10 @@ module _ {D : Type 0} where
   }
 
   -- a lane goes on by one statement
-  pub goes_statement : (lane : Lane) (i : ℕ) (text : List ℕ) (old mid new : List Journaled) (one : Journaled) (before between after : CoreState D)
+  pub goes_statement : (lane : Lane) (i : ℕ) (text : List ℕ) (old mid new : Growing) (one : Journaled) (before between after : CoreState D)
       → i < length lane.statements → text ≡ get_or lane.statements i text
       → Goes (numbered_from lane.session lane.first (take i lane.statements)) old mid before between
-      → new ≡ mid ++ one ∷ [] → IsOf (record { session = lane.session; number = lane.first + i; text = text }) one
+      → new ≡ with_block mid one → IsOf (record { session = lane.session; number = lane.first + i; text = text }) one
       → ((m : Machine) → Stands between m → Follows m one.what one.reply) → ((m : Machine) → Stands between m → Stands after (play.after m one.what one.reply))
       → ((m : Machine) → Stands between m → is_memory one.reply ≡ false → RowsFit (db_of m) one.what)
       → Goes (numbered_from lane.session lane.first (take (i + 1) lane.statements)) old new before after
@@ -152,7 +148,7 @@ module _ {D : Type 0} where
       (goes_on _ _ old mid new before between after goes (goes_one _ mid new one between after added of follows stands fits))
 
   -- a phase goes on by one lane
-  pub goes_lane : (lanes : List Lane) (i : ℕ) (lane : Lane) (old mid new : List Journaled) (before between after : CoreState D)
+  pub goes_lane : (lanes : List Lane) (i : ℕ) (lane : Lane) (old mid new : Growing) (before between after : CoreState D)
       → i < length lanes → lane ≡ get_or lanes i lane → Goes (flat_map numbered_in_lane (take i lanes)) old mid before between → Goes (numbered_in_lane lane) mid new between after
       → Goes (flat_map numbered_in_lane (take (i + 1) lanes)) old new before after
   goes_lane lanes i lane old mid new before between after inside is here there =
@@ -160,39 +156,43 @@ module _ {D : Type 0} where
 
   -- ---- phases
 
-  -- the journals of phases, from the opening of the empty database, and the core that stands after them
-  pub record HasPlayed (phases : List Phase) (journals : List (List Journaled)) (core : CoreState D) : Type 0 where
+  -- the transcript of a run of phases, from the opening of the empty database, and the core that stands after them
+  pub record HasPlayed (phases : List Phase) (made : Growing) (core : CoreState D) : Type 0 where
+    pub journals : List (List Journaled)
+    pub is_grown : made ≡ grown journals
     pub in_order : AreInOrder phases journals
     pub is_play : IsPlay (opening no_db) (all_of journals)
     pub sound : StaySound (opening no_db) (all_of journals)
     pub stands : Stands core (end_of (opening no_db) (all_of journals))
-    pub count : sum_by length journals ≡ sum_by phase_size phases
 
-  pub played_none : (core : CoreState D) → Stands core (opening no_db) → HasPlayed [] [] core
-  played_none core stands = record { in_order = tt; is_play = tt; sound = opens_sound no_db no_db_valid; stands = stands; count = refl }
+  pub played_none : (core : CoreState D) → Stands core (opening no_db) → HasPlayed [] nothing core
+  played_none core stands = record { journals = []; is_grown = refl; in_order = tt; is_play = tt; sound = opens_sound no_db no_db_valid; stands = stands }
 
-  played_push : (phases : List Phase) (phase : Phase) (journals : List (List Journaled)) (journal : List Journaled) (between after : CoreState D)
-      → HasPlayed phases journals between → Goes (numbered_in phase) [] journal between after → HasPlayed (phases ++ phase ∷ []) (journals ++ journal ∷ []) after
-  played_push phases phase journals journal between after played goes =
+  played_push : (phases : List Phase) (phase : Phase) (made new : Growing) (between after : CoreState D)
+      → HasPlayed phases made between → Goes (numbered_in phase) (with_phase made) new between after → HasPlayed (phases ++ phase ∷ []) new after
+  played_push phases phase made new between after played goes =
+      let journals = played.journals in
+      let journal = goes.own in
       let m : Machine = end_of (opening no_db) (all_of journals) in
-      let own : goes.own ≡ journal = sym goes.added in
-      let in_order : IsInOrder (numbered_in phase) journal = subst (IsInOrder (numbered_in phase)) own goes.in_order in
-      let plays = subst (λ j. IsPlay m j × Stands after (end_of m j)) own (goes.plays m played.stands) in
-      let stay = subst (StaySound m) own (goes.sound m played.stands (end_sound (opening no_db) (all_of journals) played.sound)) in
+      let plays = goes.plays m played.stands in
+      let stay = goes.sound m played.stands (end_sound (opening no_db) (all_of journals) played.sound) in
       let whole = all_of-push journals journal in
-      let size : length journal ≡ phase_size phase = length-in_order (numbered_in phase) journal in_order ∙ length-numbered_in phase in
       record {
-        in_order = AreInOrder-push phases phase journals journal played.in_order in_order;
+        journals = journals ++ journal ∷ [];
+        is_grown = goes.added ∙ ap (λ it. with_journal (with_phase it) journal) played.is_grown ∙ grown_push journals journal;
+        in_order = AreInOrder-push phases phase journals journal played.in_order goes.in_order;
         is_play = subst (IsPlay (opening no_db)) (sym whole) (IsPlay-append (opening no_db) (all_of journals) journal played.is_play plays.0);
         sound = subst (StaySound (opening no_db)) (sym whole) (StaySound-append (opening no_db) (all_of journals) journal played.sound stay);
         stands = subst (λ j. Stands after (end_of (opening no_db) j)) (sym whole) (subst (Stands after) (sym (end_of-append (opening no_db) (all_of journals) journal)) plays.1);
-        count = sum_by_push length journals journal ∙ ap (λ n. n + length journal) played.count ∙ ap (λ n. sum_by phase_size phases + n) size ∙ sym (sum_by_push phase_size phases phase);
       }
 
-  pub played_more : (phases : List Phase) (i : ℕ) (phase : Phase) (journals made : List (List Journaled)) (journal : List Journaled) (between after : CoreState D)
-      → i < length phases → phase ≡ get_or phases i phase → made ≡ journals ++ journal ∷ []
-      → HasPlayed (take i phases) journals between → Goes (numbered_in phase) [] journal between after → HasPlayed (take (i + 1) phases) made after
-  played_more phases i phase journals made journal between after inside is pushed played goes =
+  pub played_more : (phases : List Phase) (i : ℕ) (phase : Phase) (made new : Growing) (between after : CoreState D)
+      → i < length phases → phase ≡ get_or phases i phase
+      → HasPlayed (take i phases) made between → Goes (numbered_in phase) (with_phase made) new between after → HasPlayed (take (i + 1) phases) new after
+  played_more phases i phase made new between after inside is played goes =
       let more = take_more phases i phase inside ∙ ap (λ p. take i phases ++ p ∷ []) (sym is) in
-      subst (λ ps. HasPlayed ps made after) (sym more)
-      (subst (λ js. HasPlayed (take i phases ++ phase ∷ []) js after) (sym pushed) (played_push (take i phases) phase journals journal between after played goes))
+      subst (λ ps. HasPlayed ps new after) (sym more) (played_push (take i phases) phase made new between after played goes)
+
+  -- the transcript of all phases is that of a run of the script
+  pub has_run : (script : Script) (made : Growing) (core : CoreState D) → HasPlayed script.phases made core → HasRun script made
+  has_run script made core played = (played.journals, record { in_order = played.in_order; is_play = played.is_play }, played.sound, played.is_grown)

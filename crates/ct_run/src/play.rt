@@ -1,30 +1,31 @@
-ghost use Rattle.std.specs.Prelude.{◌≡◌, [], IfOk, length, sum_by};
+ghost use Rattle.std.specs.Prelude.{◌≡◌, IfOk};
 ghost use Rattle.ct_faults.specs.Bytes.{most_bytes};
-ghost use Rattle.ct_script.specs.Size.{script_size, IsLaneWithin, IsPhaseWithin, IsWithin};
+ghost use Rattle.ct_script.specs.Size.{IsLaneWithin, IsPhaseWithin, IsWithin};
 ghost use Rattle.ct_model.specs.Apply.{no_db};
 ghost use Rattle.ct_machine.specs.Machine.{opening};
 ghost use Rattle.ct_core.specs.Stands.{Stands};
 ghost use Rattle.ct_run.specs.Schedule.{numbered_in_lane, numbered_in};
-ghost use Rattle.ct_run.specs.Steps.{Goes};
-ghost use Rattle.ct_run.specs.Top.{IsRunOf, IsSoundThroughout};
+ghost use Rattle.ct_print.specs.Growing.{with_phase};
+ghost use Rattle.ct_run.specs.Steps.{Goes, HasRun};
 
 use crate::Gate;
 use crate::command::command_of;
 use ct_core::Core;
+use ct_print::Transcript;
 use ct_script::{Lane, Phase, Script};
-use ct_types::{Journaled, List, Memory};
+use ct_types::{Journaled, Memory};
 use std::alloc::Global;
 
-/// Plays the statements of a lane, one after the other, puts them into the journal, and tells the gate of each.
+/// Plays the statements of a lane, one after the other, puts their blocks into the transcript, and tells the gate of each.
 fn play_lane<D, G: Gate>(
     alloc: Global,
     core: &mut Core<D>,
-    journal: &mut List<Journaled>,
+    transcript: &mut Transcript,
     lane: &Lane,
     gate: &G,
 ) -> Result<(), Memory>
     requires { IsLaneWithin most_bytes lane.now }
-    ensures goes { IfOk result (λ _. Goes (numbered_in_lane lane.now) journal.old journal.new core.old core.new) }
+    ensures goes { IfOk result (λ _. Goes (numbered_in_lane lane.now) transcript.old transcript.new core.old core.new) }
     ensures disk { core.new.disk ≡ core.old.disk }
 {
     let mut number = lane.first;
@@ -33,7 +34,7 @@ fn play_lane<D, G: Gate>(
         gate.before(lane.session, number);
         let reply = core.event(alloc, lane.session, &what);
         gate.after(lane.session, number);
-        journal.push(Journaled {
+        transcript.block(&Journaled {
             session: lane.session,
             number,
             what,
@@ -48,53 +49,50 @@ fn play_lane<D, G: Gate>(
 fn play_phase<D, G: Gate>(
     alloc: Global,
     core: &mut Core<D>,
+    transcript: &mut Transcript,
     phase: &Phase,
     gate: &G,
-) -> Result<List<Journaled>, Memory>
+) -> Result<(), Memory>
     requires { IsPhaseWithin most_bytes phase.now }
-    ensures goes { IfOk result (λ journal. Goes (numbered_in phase.now) [] journal core.old core.new) }
+    ensures goes { IfOk result (λ _. Goes (numbered_in phase.now) (with_phase transcript.old) transcript.new core.old core.new) }
     ensures disk { core.new.disk ≡ core.old.disk }
 {
-    let mut journal = List::new(alloc);
+    transcript.phase()?;
     for lane in phase.sessions.as_slice() {
-        play_lane(alloc, core, &mut journal, lane, gate)?;
+        play_lane(alloc, core, transcript, lane, gate)?;
     }
-    Ok(journal)
+    Ok(())
 }
 
-/// Plays the phases of a script, from a core that stands for the opening of the empty database: their journals.
+/// Plays the phases of a script, from a core that stands for the opening of the empty database: the run's transcript.
 fn play_all<D, G: Gate>(
     alloc: Global,
     core: &mut Core<D>,
     script: &Script,
     gate: &G,
-) -> Result<List<List<Journaled>>, Memory>
+) -> Result<Transcript, Memory>
     requires within { IsWithin most_bytes script.now }
     requires opening { Stands core.old (opening no_db) }
-    ensures run { IfOk result (IsRunOf script.now) }
-    ensures sound { IfOk result IsSoundThroughout }
-    ensures count { IfOk result (λ journals. sum_by length journals ≡ script_size script.now) }
+    ensures run { IfOk result (HasRun script.now) }
     ensures disk { core.new.disk ≡ core.old.disk }
 {
-    let mut journals = List::new(alloc);
+    let mut transcript = Transcript::new(alloc);
     for phase in script.phases.as_slice() {
-        journals.push(play_phase(alloc, core, phase, gate)?)?;
+        play_phase(alloc, core, &mut transcript, phase, gate)?;
     }
-    Ok(journals)
+    Ok(transcript)
 }
 
-/// Plays a script from the empty database: the journals of its phases. The core has the disk meanwhile, which comes back
-/// as it was handed in.
+/// Plays a script from the empty database: the run's transcript. The core has the disk meanwhile, which comes back as it
+/// was handed in.
 pub(crate) fn play_script<D, G: Gate>(
     alloc: Global,
     script: &Script,
     disk: D,
     gate: &G,
-) -> (Result<List<List<Journaled>>, Memory>, D)
+) -> (Result<Transcript, Memory>, D)
     requires { IsWithin most_bytes script.now }
-    ensures run { IfOk result.0 (IsRunOf script.now) }
-    ensures sound { IfOk result.0 IsSoundThroughout }
-    ensures count { IfOk result.0 (λ journals. sum_by length journals ≡ script_size script.now) }
+    ensures run { IfOk result.0 (HasRun script.now) }
     ensures disk { result.1 ≡ disk }
 {
     match Core::fresh(alloc, disk) {

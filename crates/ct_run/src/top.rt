@@ -1,7 +1,7 @@
-ghost use Rattle.std.specs.Prelude.{◌≡◌, ◌<◌, ◌≤◌, ◌^◌, ◌↔◌, IsTrue, IfOk, OnErr, length, sum_by};
-ghost use Rattle.std.specs.List.{list_any};
+ghost use Rattle.std.specs.Prelude.{◌≡◌, ◌≤◌, ◌↔◌, IsTrue, IfOk, OnErr, List as Phases, length};
 ghost use Rattle.ct_faults.specs.Bytes.{most_bytes};
-ghost use Rattle.ct_machine.specs.Play.{is_memory};
+ghost use Rattle.ct_types.specs.declared.command.Journaled.{Journaled};
+ghost use Rattle.ct_print.specs.Growing.{grown};
 ghost use Rattle.ct_script.specs.Size.{IsWithin};
 ghost use Rattle.ct_run.specs.declared.status.Status.{Status as Ending};
 ghost use Rattle.ct_run.specs.Steps.{Performs};
@@ -10,10 +10,9 @@ ghost use Rattle.ct_run.specs.Top.{code_of, DiskChange, source_change, sink_chan
 use crate::play::play_script;
 use crate::{Gate, Status};
 use ct_faults::{Disk, ReadError, Sink, Source, read_all, write_all};
-use ct_machine::wants_memory;
-use ct_print::print_run;
+use ct_print::Transcript;
 use ct_script::{Script, ScriptError, read_script};
-use ct_types::{Journaled, List, Memory};
+use ct_types::Memory;
 use std::alloc::{AllocError, Global};
 use std::sync::Wait;
 use std::thread::Threads;
@@ -34,43 +33,19 @@ fn say<K: Sink>(sink: &mut K, text: &[u8])
     let _ = write_all(sink, text);
 }
 
-/// Whether a reply of the journal says that memory was wanting.
-fn any_wants_memory(journal: &[Journaled]) -> bool
-    ensures { result ≡ list_any (λ one. is_memory one.reply) journal.now }
-{
-    journal.iter().any(|one| wants_memory(&one.reply))
-}
-
-/// The same of the journals of a run.
-fn run_wants_memory(journals: &[List<Journaled>]) -> bool
-    ensures { result ≡ list_any (λ journal. list_any (λ one. is_memory one.reply) journal) journals.now }
-{
-    journals
-        .iter()
-        .any(|journal| any_wants_memory(journal.as_slice()))
-}
-
-/// Writes the transcript of a run: `Done`, or `WriteFault` where a write failed, or `Memory` where a reply wanted
-/// memory or the transcript finds none.
-#[tactic(auto, using(crate::proofs::Runs::any_of_all))]
-fn write_run<K: Sink>(alloc: Global, journals: &[List<Journaled>], sink: &mut K) -> Status
-    requires { sum_by length journals.now < 2 ^ 31 }
-    ensures { Writes result
+/// Writes the transcript of a run: `Done`, or `WriteFault` where a write failed, or `Memory` where a reply wanted memory.
+fn write_run<K: Sink>(transcript: &Transcript, sink: &mut K) -> Status
+    ensures { (journals : Phases (Phases Journaled)) → transcript.now ≡ grown journals → Writes result
         (sink_change K.held K.faults sink.old sink.new)
-        journals.now }
+        journals }
 {
-    match print_run(alloc, journals) {
-        Err(Memory) => Status::Memory,
-        Ok(text) => {
-            let written = write_all(sink, text.as_bytes());
-            if run_wants_memory(journals) {
-                return Status::Memory;
-            }
-            match written {
-                Ok(()) => Status::Done,
-                Err(_) => Status::WriteFault,
-            }
-        }
+    let written = write_all(sink, transcript.as_bytes());
+    if transcript.wanted_memory() {
+        return Status::Memory;
+    }
+    match written {
+        Ok(()) => Status::Done,
+        Err(_) => Status::WriteFault,
     }
 }
 
@@ -102,7 +77,7 @@ fn perform<K: Sink, D, G: Gate>(
     let (played, disk) = play_script(alloc, script, disk, gate);
     let status = match played {
         Err(Memory) => Status::Memory,
-        Ok(journals) => write_run(alloc, journals.as_slice(), sink),
+        Ok(transcript) => write_run(&transcript, sink),
     };
     (status, disk)
 }

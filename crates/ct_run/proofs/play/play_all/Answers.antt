@@ -4,7 +4,7 @@ use Rattle.ct_run.proofs.play.play_all.Goals as goal
 
 pub loop-phase-preserved : goal.loop-phase-preserved
 loop-phase-preserved g c = record {
-  played = played_more c.args.script.now.phases c.loop-phase.phase-index c.phase-item.result c.loop-phase.journals c.push.new.self c.in_ok-play_phase.field-0
-      c.loop-phase.core c.play_phase.new.core (omega (arith, ap length c.as_slice-phase-items.ensures)) (c.phase-item.is ∙ ap (λ items. get_or items c.loop-phase.phase-index c.phase-item.result) c.as_slice-phase-items.ensures) c.in_ok-push.ensures.ok c.loop-phase.invariant.played c.in_ok-play_phase.ensures.goes;
+  played = played_more c.args.script.now.phases c.loop-phase.phase-index c.phase-item.result c.loop-phase.transcript c.play_phase.new.transcript
+      c.loop-phase.core c.play_phase.new.core (omega (arith, ap length c.as_slice-phase-items.ensures)) (c.phase-item.is ∙ ap (λ items. get_or items c.loop-phase.phase-index c.phase-item.result) c.as_slice-phase-items.ensures) c.loop-phase.invariant.played c.in_ok-play_phase.ensures.goes;
   disk = c.play_phase.ensures.disk ∙ c.loop-phase.invariant.disk;
 }

@@ -6,7 +6,7 @@ use Rattle.ct_run.proofs.play.play_lane.Given as goal
 -- the statements so far were played
 abbrev pub invariant-loop-text : goal.invariant-loop-text
 invariant-loop-text g l = record {
-  goes : Goes (numbered_from l.lane.session l.lane.first (take l.text-index l.lane.statements)) l.fn.journal l.journal l.fn.core l.core;
+  goes : Goes (numbered_from l.lane.session l.lane.first (take l.text-index l.lane.statements)) l.fn.transcript l.transcript l.fn.core l.core;
   number : l.number ≡ l.lane.first + l.text-index;
   disk : l.core.disk ≡ l.fn.core.disk;
 }
