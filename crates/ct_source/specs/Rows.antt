@@ -1,7 +1,11 @@
 -- The rows of a table by their keys, and rows that are lent. This project's own.
-use Rattle.std.specs.Prelude.{◌≡◌, ℕ, ◌≤◌, List, length, map}
+use Rattle.std.specs.Prelude.{◌≡◌, ◌≢◌, ℕ, ◌≤◌, List, length, map, Result, Ok, Err}
 use Rattle.std.specs.List.{AllByRecursion}
 use denote.Ref.{Bor}
+use Rattle.ct_types.specs.Answers.{Answer}
+use Rattle.ct_types.specs.declared.refusal.Refusal.{Refusal}
+use Rattle.ct_types.specs.declared.refusal.Refusal.TheVariants.{Memory}
+use Rattle.ct_types.specs.declared.value.Key.{Key}
 use Rattle.ct_types.specs.declared.value.Row.{Row}
 use Rattle.ct_types.specs.declared.schema.Schema.{Schema}
 use Rattle.ct_ptree.specs.declared.pair.Pair.{Pair}
@@ -10,6 +14,11 @@ use Rattle.ct_model.specs.Tables.{key_of}
 -- what references of a list refer to
 abbrev pub lent : {A : Type 0} → List (Bor A) → List A
 lent = map (λ one. one.now)
+
+-- what a call that lends the members of a list answers: those that are wanted, or want of memory
+abbrev pub GivesLent : {A : Type 0} → Answer (List A) → Result (List (Bor A)) Refusal → Type 0
+GivesLent wanted (Ok all) = wanted ≡ Ok (lent all)
+GivesLent wanted (Err refusal) = refusal ≢ Memory → wanted ≡ Err refusal
 
 -- the rows of pairs
 abbrev pub rows_of : List (Pair Row) → List Row
@@ -26,6 +35,10 @@ HasKeyColumns schema = AllByRecursion (IsColumnId schema) schema.key
 -- a row has a value for each column
 abbrev pub IsWhole : Schema → Row → Type 0
 IsWhole schema row = length row.0 ≡ length schema.columns
+
+-- a row stands at this key: it has the key, and a value for each column
+abbrev pub IsRowOf : Schema → Key → Row → Type 0
+IsRowOf schema key row = (key_of schema row ≡ key) × IsWhole schema row
 
 -- each row has a value for each column, and stands at its key
 pub record AreKeyed (schema : Schema) (pairs : List (Pair Row)) : Type 0 where

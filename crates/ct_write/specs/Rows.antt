@@ -11,6 +11,7 @@ use Rattle.ct_types.specs.declared.value.Value.{Value}
 use Rattle.ct_types.specs.declared.value.Value.TheVariants.{Null}
 use Rattle.ct_model.specs.Tables.{key_of}
 use Rattle.ct_expr.specs.Meaning.{World, on, value, holds}
+use Rattle.ct_keyed.specs.Laws.{only}
 use Rattle.ct_types.specs.Answers.{Answer, ◌>>=◌, each}
 use Rattle.ct_write.specs.declared.changes.Changed.{Changed}
 
@@ -22,8 +23,7 @@ no_row = record { 0 = [] }
 
 -- those on which WHERE is true, in the order of the rows; where it is not written, each row
 abbrev pub targets : World → Option BoundExpr → List Row → Answer (List Row)
-targets w filter [] = Ok []
-targets w filter (row ∷ rows) = holds w filter row >>= (λ takes. targets w filter rows >>= (λ more. Ok (if takes then row ∷ more else more)))
+targets w filter rows = only (holds w filter) rows
 
 -- ---- what is made of them
 

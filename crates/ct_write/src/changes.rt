@@ -1,11 +1,13 @@
 ghost use Rattle.std.specs.Prelude.{◌≡◌, map, IfOk};
 ghost use Rattle.ct_types.specs.Answers.{Gives, each};
+ghost use Rattle.ct_source.specs.Rows.{lent};
 ghost use Rattle.ct_write.specs.Rows as spec;
 
-use crate::targets::targets;
 use crate::values::{assign, nulls, set_columns, set_values, tuple_values};
 use ct_expr::{Env, Versions};
 use ct_model::key_of_row;
+use ct_scan::rows_where;
+use ct_source::{Source, Stored};
 use ct_types::{
     BoundExpr, BoundSet, Copies, Key, List, Memory, Refusal, Row, RowChange, Schema, push,
 };
@@ -83,11 +85,11 @@ fn update_all<L: Versions>(
     alloc: Global,
     schema: &Schema,
     sets: &[BoundSet],
-    rows: &[Row],
+    rows: &[&Row],
     env: &Env,
     versions: &L,
 ) -> Result<List<Changed>, Refusal>
-    ensures { Gives (each (spec.updated (record { env = env.now; versions = L.row_of versions.now }) schema.now sets.now) rows.now) result }
+    ensures { Gives (each (spec.updated (record { env = env.now; versions = L.row_of versions.now }) schema.now sets.now) (lent rows.now)) result }
 {
     let mut changes = List::new(alloc);
     for before in rows {
@@ -99,8 +101,8 @@ fn update_all<L: Versions>(
     Ok(changes)
 }
 
-fn delete_all(alloc: Global, schema: &Schema, rows: &[Row]) -> Result<List<Changed>, Memory>
-    ensures { IfOk result (λ changes. changes ≡ map (spec.deleted schema.now) rows.now) }
+fn delete_all(alloc: Global, schema: &Schema, rows: &[&Row]) -> Result<List<Changed>, Memory>
+    ensures { IfOk result (λ changes. changes ≡ map (spec.deleted schema.now) (lent rows.now)) }
 {
     let mut changes = List::new(alloc);
     for row in rows {
@@ -115,39 +117,27 @@ fn delete_all(alloc: Global, schema: &Schema, rows: &[Row]) -> Result<List<Chang
 /// The rows that a statement changes, in the order of VALUES or of the rows, before they are fitted.
 pub(crate) fn changes_of<L: Versions>(
     alloc: Global,
-    schema: &Schema,
+    table: &Stored,
     change: &RowChange,
-    rows: &[Row],
-    env: &Env,
+    env: &Env<'_>,
     versions: &L,
 ) -> Result<List<Changed>, Refusal>
-    ensures { Gives (spec.changes_of (record { env = env.now; versions = L.row_of versions.now }) schema.now change.now rows.now) result }
+    ensures { Gives (spec.changes_of (record { env = env.now; versions = L.row_of versions.now }) table.now.schema change.now table.now.rows) result }
 {
+    let schema = table.schema();
     match change {
         RowChange::Insert { columns, tuples } => {
-            insert_all(
-                alloc,
-                schema,
-                columns.as_slice(),
-                tuples.as_slice(),
-                env,
-                versions,
-            )
+            let columns = columns.as_slice();
+            insert_all(alloc, schema, columns, tuples.as_slice(), env, versions)
         }
         RowChange::Update { sets, filter } => {
-            let chosen = targets(alloc, filter, rows, env, versions)?;
-            update_all(
-                alloc,
-                schema,
-                sets.as_slice(),
-                chosen.as_slice(),
-                env,
-                versions,
-            )
+            let rows = rows_where(alloc, filter, Source::Stored(table), env, versions)?;
+            let sets = sets.as_slice();
+            update_all(alloc, schema, sets, rows.as_slice(), env, versions)
         }
         RowChange::Delete { filter } => {
-            let chosen = targets(alloc, filter, rows, env, versions)?;
-            Ok(delete_all(alloc, schema, chosen.as_slice())?)
+            let rows = rows_where(alloc, filter, Source::Stored(table), env, versions)?;
+            Ok(delete_all(alloc, schema, rows.as_slice())?)
         }
     }
 }

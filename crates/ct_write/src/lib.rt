@@ -9,7 +9,6 @@ mod fitting;
 mod laws;
 mod masks;
 mod statement;
-mod targets;
 mod values;
 
 pub use duplicates::duplicate;

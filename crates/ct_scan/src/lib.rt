@@ -1,0 +1,9 @@
+//! The rows of a source on which a condition is true: all are tested, or those alone that have the value to which the
+//! condition pins a key.
+#![tactic(auto)]
+
+mod conditions;
+mod partners;
+
+pub use conditions::rows_where;
+pub use partners::{lefts_of, rights_of};
