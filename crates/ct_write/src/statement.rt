@@ -2,6 +2,7 @@ ghost use Rattle.std.specs.Prelude.{◌≡◌, map, IfOk, IfSome};
 ghost use Rattle.std.specs.List.{AllByRecursion};
 ghost use Rattle.ct_types.specs.Answers.{Gives};
 ghost use Rattle.ct_model.specs.Tables.{catalogued};
+ghost use Rattle.ct_source.specs.Rows.{IsRowOf};
 ghost use Rattle.ct_write.specs.Fitting.{IsFit};
 ghost use Rattle.ct_write.specs.Writes as spec;
 
