@@ -24,7 +24,7 @@ fn insert_one<L: Versions>(
     schema: &Schema,
     columns: &[u16],
     tuple: &[BoundExpr],
-    env: &Env,
+    env: &Env<'_>,
     versions: &L,
 ) -> Result<Changed, Refusal>
     ensures { Gives (spec.inserted (record { env = env.now; versions = L.row_of versions.now }) schema.now columns.now tuple.now) result }
@@ -46,7 +46,7 @@ fn insert_all<L: Versions>(
     schema: &Schema,
     columns: &[u16],
     tuples: &[Items<BoundExpr>],
-    env: &Env,
+    env: &Env<'_>,
     versions: &L,
 ) -> Result<List<Changed>, Refusal>
     ensures { Gives (each (spec.inserted (record { env = env.now; versions = L.row_of versions.now }) schema.now columns.now) tuples.now) result }
@@ -64,7 +64,7 @@ fn update_one<L: Versions>(
     schema: &Schema,
     sets: &[BoundSet],
     before: &Row,
-    env: &Env,
+    env: &Env<'_>,
     versions: &L,
 ) -> Result<Changed, Refusal>
     ensures { Gives (spec.updated (record { env = env.now; versions = L.row_of versions.now }) schema.now sets.now before.now) result }
@@ -84,7 +84,7 @@ fn update_all<L: Versions>(
     schema: &Schema,
     sets: &[BoundSet],
     rows: &[Row],
-    env: &Env,
+    env: &Env<'_>,
     versions: &L,
 ) -> Result<List<Changed>, Refusal>
     ensures { Gives (each (spec.updated (record { env = env.now; versions = L.row_of versions.now }) schema.now sets.now) rows.now) result }
@@ -118,7 +118,7 @@ pub(crate) fn changes_of<L: Versions>(
     schema: &Schema,
     change: &RowChange,
     rows: &[Row],
-    env: &Env,
+    env: &Env<'_>,
     versions: &L,
 ) -> Result<List<Changed>, Refusal>
     ensures { Gives (spec.changes_of (record { env = env.now; versions = L.row_of versions.now }) schema.now change.now rows.now) result }

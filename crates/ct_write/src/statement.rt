@@ -80,7 +80,7 @@ pub fn writes<L: Versions>(
     bound: &BoundWrite,
     table: &Catalogued,
     rows: &[Row],
-    env: &Env,
+    env: &Env<'_>,
     versions: &L,
 ) -> Result<List<Write>, Refusal>
     requires { spec.NamesIds bound.now.change }

@@ -10,7 +10,7 @@ pub(crate) fn targets<L: Versions>(
     alloc: Global,
     filter: &Option<BoundExpr>,
     rows: &[Row],
-    env: &Env,
+    env: &Env<'_>,
     versions: &L,
 ) -> Result<List<Row>, Refusal>
     ensures { Gives (spec.targets (record { env = env.now; versions = L.row_of versions.now }) filter.now rows.now) result }
