@@ -1,3 +1,4 @@
+pub mod Environment
 pub mod Logic
 pub mod Numbers
 pub mod Tables
