@@ -4,4 +4,5 @@ pub mod Numbers
 pub mod Tables
 pub mod Functions
 pub mod Meaning
+pub mod Conditions
 pub mod Laws

@@ -23,8 +23,8 @@ pub(crate) fn value_at(alloc: Global, values: &[Value], at: u32) -> Result<Value
     }
 }
 
-/// The value of the variable in a place.
-pub(crate) fn variable_at(alloc: Global, variables: &[Variable], at: u32) -> Result<Value, Memory>
+/// The value of the variable at a place, counted from 0; NULL where there is none. `Memory` is the only error.
+pub fn variable_at(alloc: Global, variables: &[Variable], at: u32) -> Result<Value, Memory>
     ensures { IfOk result (λ value. value ≡ spec.or_null (option_map (λ variable. variable.value) (slice_get variables.now at))) }
 {
     match variables.get(at as usize) {

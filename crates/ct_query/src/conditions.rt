@@ -1,5 +1,5 @@
 ghost use Rattle.ct_expr.specs.Meaning as spec;
-ghost use Rattle.ct_query.specs.Lists.{only};
+ghost use Rattle.ct_expr.specs.Conditions.{only};
 ghost use Rattle.ct_query.specs.Steps.{GivesLent};
 
 use ct_expr::{Env, Versions, holds};
