@@ -1,6 +1,6 @@
 ghost use Rattle.std.specs.Prelude.{IfOk, Some};
 ghost use Rattle.ct_expr.specs.Meaning.{holds as is_true};
-ghost use Rattle.ct_keyed.specs.Laws.{only};
+ghost use Rattle.ct_expr.specs.Conditions.{only};
 ghost use Rattle.ct_scan.specs.Enough.{AreEnough};
 ghost use Rattle.ct_source.specs.Rows.{lent, GivesLent};
 ghost use Rattle.ct_source.specs.Sources.{source_rows};
