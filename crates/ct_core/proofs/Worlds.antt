@@ -8,20 +8,20 @@ use Rattle.ct_types.specs.declared.value.Value.{Value}
 use Rattle.std.proofs.Common.{List}
 use Rattle.ct_model.specs.declared.db.Db.{Db}
 use Rattle.ct_model.specs.Net.{net}
-use Rattle.ct_expr.specs.declared.env.Env.{Env}
+use Rattle.ct_expr.specs.Environment.{Environment}
 use Rattle.ct_expr.specs.Meaning.{scene, value}
 use Rattle.ct_machine.specs.Reads.{changes_rows, env_of, no_version, shown, since_of}
 
-pub value_of_none : (db : Db) (env : Env) (row : Row) (last : BoundExpr) → env ≡ env_of db → row ≡ record { 0 = [] }
+pub value_of_none : (db : Db) (env : Environment) (row : Row) (last : BoundExpr) → env ≡ env_of db → row ≡ record { 0 = [] }
     → value (scene row env no_version) last ≡ value (scene (record { 0 = [] }) (env_of db) no_version) last
 value_of_none db env row last is none = ap (λ e. value (scene row e no_version) last) is ∙ ap (λ r. value (scene r (env_of db) no_version) last) none
 
-pub changes_refused : (db : Db) (env : Env) (row : Row) (table : ℕ) (last : BoundExpr) (refusal : Refusal) → env ≡ env_of db → row ≡ record { 0 = [] }
+pub changes_refused : (db : Db) (env : Environment) (row : Row) (table : ℕ) (last : BoundExpr) (refusal : Refusal) → env ≡ env_of db → row ≡ record { 0 = [] }
     → Gives (value (scene row env no_version) last) (Err refusal) → Gives (changes_rows db table last) (Err refusal)
 changes_refused db env row table last refusal is none gives = λ told.
     ap (λ answer. answer >>= (λ found. Ok (map shown (net db table (since_of found))))) (sym (value_of_none db env row last is none) ∙ gives told)
 
-pub changes_made : (db : Db) (env : Env) (row : Row) (table : ℕ) (last : BoundExpr) (found : Value) (made : List Row) → env ≡ env_of db → row ≡ record { 0 = [] }
+pub changes_made : (db : Db) (env : Environment) (row : Row) (table : ℕ) (last : BoundExpr) (found : Value) (made : List Row) → env ≡ env_of db → row ≡ record { 0 = [] }
     → value (scene row env no_version) last ≡ Ok found → made ≡ map shown (net db table (since_of found)) → changes_rows db table last ≡ Ok made
 changes_made db env row table last found made is none gives shows =
     ap (λ answer. answer >>= (λ found. Ok (map shown (net db table (since_of found))))) (sym (value_of_none db env row last is none) ∙ gives) ∙ ap (λ rows. Ok rows) (sym shows)

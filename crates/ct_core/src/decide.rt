@@ -16,17 +16,23 @@ use ct_bind::bind;
 use ct_machine::{Decision, is_built};
 use ct_model::{Db, Table, find_table};
 use ct_types::{
-    Act, Bound, BoundSelect, BoundWrite, Command, Copies, Key, List, Memory, Refusal, Reply, Stmt,
+    Act, Bound, BoundSelect, BoundWrite, Catalogued, Command, Copies, Key, List, Memory, Refusal, Reply, Stmt,
     Variables, Write,
 };
 use ct_write::{duplicate, writes};
 use std::alloc::Global;
 
-fn decide_select(alloc: Global, db: &Db, query: &BoundSelect) -> Result<Decision, Memory>
+fn decide_select(
+    alloc: Global,
+    db: &Db,
+    tables: &[Catalogued],
+    query: &BoundSelect,
+) -> Result<Decision, Memory>
+    requires { tables.now ≡ catalogue_of db.now }
     ensures is { IfOk result (λ made. made ≡ spec.answered (selected_in db.now query.now)) }
     ensures narrow { IfOk result DecisionIsNarrow }
 {
-    match selected(alloc, db, query) {
+    match selected(alloc, db, tables, query) {
         Ok(grid) => Ok(Decision::Answers(Reply::Rows(grid))),
         Err(Refusal::Memory) => Err(Memory),
         Err(refusal) => Ok(Decision::Refuses(refusal)),
@@ -72,14 +78,17 @@ fn without_duplicates(alloc: Global, table: &Table, writes: List<Write>) -> Resu
 fn writes_on(
     alloc: Global,
     db: &Db,
+    tables: &[Catalogued],
     write: &BoundWrite,
     table: &Table,
 ) -> Result<List<Write>, Refusal>
-    requires { NamesIds write.now.change }
+    requires tables { tables.now ≡ catalogue_of db.now }
+    requires ids { NamesIds write.now.change }
     ensures gives { Gives (writes_of (world_of db.now) (catalogued_table table.now) write.now table.now.rows) result }
     ensures fit { IfOk result (λ made. AllByRecursion (λ one. IsFit table.now.schema.columns one.row) made) }
 {
-    let env = env(alloc, db)?;
+    let variables = Variables(List::new(alloc));
+    let env = env(db, &variables, tables);
     let catalogued = catalogued(alloc, table)?;
     writes(
         alloc,
@@ -91,28 +100,41 @@ fn writes_on(
     )
 }
 
-fn write_to(alloc: Global, db: &Db, write: &BoundWrite, table: &Table) -> Result<Decision, Memory>
-    requires { NamesIds write.now.change }
+fn write_to(
+    alloc: Global,
+    db: &Db,
+    tables: &[Catalogued],
+    write: &BoundWrite,
+    table: &Table,
+) -> Result<Decision, Memory>
+    requires tables { tables.now ≡ catalogue_of db.now }
+    requires ids { NamesIds write.now.change }
     ensures is { IfOk result (λ made. made ≡ spec.written db.now write.now (Some table.now)) }
     ensures narrow { IfOk result DecisionIsNarrow }
     ensures fits { OnOk result (FitsOn db.now write.now table.now) }
 {
-    match writes_on(alloc, db, write, table) {
+    match writes_on(alloc, db, tables, write, table) {
         Ok(writes) => without_duplicates(alloc, table, writes),
         Err(Refusal::Memory) => Err(Memory),
         Err(refusal) => Ok(Decision::Refuses(refusal)),
     }
 }
 
-fn decide_write(alloc: Global, db: &Db, write: &BoundWrite) -> Result<Decision, Memory>
-    requires { NamesIds write.now.change }
+fn decide_write(
+    alloc: Global,
+    db: &Db,
+    tables: &[Catalogued],
+    write: &BoundWrite,
+) -> Result<Decision, Memory>
+    requires tables { tables.now ≡ catalogue_of db.now }
+    requires ids { NamesIds write.now.change }
     ensures is { IfOk result (λ made. made ≡ spec.written db.now write.now (table_of db.now.tables write.now.table)) }
     ensures narrow { IfOk result DecisionIsNarrow }
     ensures fits { OnOk result (WriteFits db.now write.now) }
 {
     match find_table(db.tables.as_slice(), write.table) {
         None => Ok(Decision::Answers(Reply::Count(0))),
-        Some(table) => write_to(alloc, db, write, table),
+        Some(table) => write_to(alloc, db, tables, write, table),
     }
 }
 
@@ -125,27 +147,45 @@ fn not_built<T: Drop>(_statement: T) -> Decision
 }
 
 /// What an INSERT, UPDATE or DELETE comes to, which is let go.
-fn write_once(alloc: Global, db: &Db, write: BoundWrite) -> Result<Decision, Memory>
-    requires { NamesIds write.change }
+fn write_once(
+    alloc: Global,
+    db: &Db,
+    tables: &[Catalogued],
+    write: BoundWrite,
+) -> Result<Decision, Memory>
+    requires tables { tables.now ≡ catalogue_of db.now }
+    requires ids { NamesIds write.change }
     ensures is { IfOk result (λ made. made ≡ spec.written db.now write (table_of db.now.tables write.table)) }
     ensures narrow { IfOk result DecisionIsNarrow }
     ensures fits { OnOk result (WriteFits db.now write) }
 {
-    decide_write(alloc, db, &write)
+    decide_write(alloc, db, tables, &write)
 }
 
 /// What a SELECT comes to, which is let go.
-fn select_once(alloc: Global, db: &Db, query: BoundSelect) -> Result<Decision, Memory>
+fn select_once(
+    alloc: Global,
+    db: &Db,
+    tables: &[Catalogued],
+    query: BoundSelect,
+) -> Result<Decision, Memory>
+    requires { tables.now ≡ catalogue_of db.now }
     ensures is { IfOk result (λ made. made ≡ spec.answered (selected_in db.now query)) }
     ensures narrow { IfOk result DecisionIsNarrow }
 {
-    decide_select(alloc, db, &query)
+    decide_select(alloc, db, tables, &query)
 }
 
 /// What a bound statement comes to.
 #[tactic(auto, unfolding(ct_machine::specs::Decide::decide_bound))]
-fn decide_bound(alloc: Global, db: &Db, statement: Bound) -> Result<Decision, Memory>
-    requires { KeepsLimits statement }
+fn decide_bound(
+    alloc: Global,
+    db: &Db,
+    tables: &[Catalogued],
+    statement: Bound,
+) -> Result<Decision, Memory>
+    requires tables { tables.now ≡ catalogue_of db.now }
+    requires limits { KeepsLimits statement }
     ensures is { IfOk result (λ made. made ≡ spec.decide_bound db.now statement) }
     ensures narrow { IfOk result DecisionIsNarrow }
     ensures fits { OnOk result (AnswerFits db.now (Ok statement)) }
@@ -157,8 +197,8 @@ fn decide_bound(alloc: Global, db: &Db, statement: Bound) -> Result<Decision, Me
         Bound::EnableTracking { table, masks } => {
             Ok(Decision::Commits(Act::Enable { table, masks }, Reply::Done))
         }
-        Bound::Write(write) => write_once(alloc, db, write),
-        Bound::Select(query) => select_once(alloc, db, query),
+        Bound::Write(write) => write_once(alloc, db, tables, write),
+        Bound::Select(query) => select_once(alloc, db, tables, query),
         Bound::SetVariable { variable: _, value } => Ok(not_built(value)),
         Bound::Declare {
             variable,
@@ -176,14 +216,19 @@ fn decide_bound(alloc: Global, db: &Db, statement: Bound) -> Result<Decision, Me
 }
 
 /// What a sentence means among the tables, without variables.
-fn bound(alloc: Global, db: &Db, statement: &Stmt) -> Result<Bound, Refusal>
-    requires { IsNarrow db.now }
+fn bound(
+    alloc: Global,
+    db: &Db,
+    tables: &List<Catalogued>,
+    statement: &Stmt,
+) -> Result<Bound, Refusal>
+    requires tables { tables.now ≡ catalogue_of db.now }
+    requires narrow { IsNarrow db.now }
     ensures value { Gives (binding (catalogue_of db.now) db.now.keep [] statement.now) result }
     ensures limits { IfOk result KeepsLimits }
 {
-    let tables = catalogue(alloc, db)?;
     let names = Variables(List::new(alloc));
-    bind(alloc, statement, &tables, db.keep, &names)
+    bind(alloc, statement, tables, db.keep, &names)
 }
 
 fn decide_sentence(alloc: Global, db: &Db, statement: &Stmt) -> Result<Decision, Memory>
@@ -192,8 +237,9 @@ fn decide_sentence(alloc: Global, db: &Db, statement: &Stmt) -> Result<Decision,
     ensures narrow { IfOk result DecisionIsNarrow }
     ensures fits { OnOk result (AnswerFits db.now (binding (catalogue_of db.now) db.now.keep [] statement.now)) }
 {
-    match bound(alloc, db, statement) {
-        Ok(bound) => decide_bound(alloc, db, bound),
+    let tables = catalogue(alloc, db)?;
+    match bound(alloc, db, &tables, statement) {
+        Ok(bound) => decide_bound(alloc, db, tables.as_slice(), bound),
         Err(Refusal::Memory) => Err(Memory),
         Err(refusal) => Ok(Decision::Refuses(refusal)),
     }

@@ -1,4 +1,4 @@
-ghost use Rattle.std.specs.Prelude.{◌≡◌, map, IfOk};
+ghost use Rattle.std.specs.Prelude.{◌≡◌, [], map, IfOk};
 ghost use Rattle.std.specs.Option.{option_copied};
 ghost use Rattle.ct_types.specs.Answers.{Gives};
 ghost use Rattle.ct_machine.specs.Reads as spec;
@@ -13,7 +13,7 @@ use ct_model::{Db, Table, find_table, net};
 use ct_query::select;
 use ct_types::{
     BoundExpr, BoundSelect, BoundSource, Catalogued, Copies, Grid, Key, List, Memory, Refusal, Row,
-    Schema, Value, Variables, VersionRow,
+    Value, Variables, VersionRow,
 };
 use std::alloc::Global;
 
@@ -54,35 +54,6 @@ pub(crate) fn catalogue(alloc: Global, db: &Db) -> Result<List<Catalogued>, Memo
     Ok(made)
 }
 
-fn minimum(table: &Table) -> Option<u64>
-    ensures { result ≡ spec.minimum_of table.now }
-{
-    match table.tracked {
-        None => None,
-        Some(tracked) => Some(tracked.min),
-    }
-}
-
-fn minima(alloc: Global, tables: &[Table]) -> Result<List<Option<u64>>, Memory>
-    ensures { IfOk result (λ made. made ≡ map spec.minimum_of tables.now) }
-{
-    let mut made = List::new(alloc);
-    for table in tables {
-        made.push(minimum(table))?;
-    }
-    Ok(made)
-}
-
-fn schemas(alloc: Global, tables: &[Table]) -> Result<List<Schema>, Memory>
-    ensures { IfOk result (λ made. made ≡ map (λ table. table.schema) tables.now) }
-{
-    let mut made = List::new(alloc);
-    for table in tables {
-        made.push(table.schema.copy(alloc)?)?;
-    }
-    Ok(made)
-}
-
 fn current(db: &Db) -> Option<u64>
     ensures { result ≡ current_version db.now }
 {
@@ -92,16 +63,17 @@ fn current(db: &Db) -> Option<u64>
     }
 }
 
-/// What expressions may ask for beside their row.
-pub(crate) fn env(alloc: Global, db: &Db) -> Result<Env, Memory>
-    ensures { IfOk result (λ made. made ≡ spec.env_of db.now) }
+/// What expressions may ask for beside their row, where there are no variables.
+pub(crate) fn env<'a>(db: &Db, variables: &'a Variables, tables: &'a [Catalogued]) -> Env<'a>
+    requires none { variables.now ≡ record { 0 = [] } }
+    requires tables { tables.now ≡ spec.catalogue db.now }
+    ensures { result ≡ spec.env_of db.now }
 {
-    Ok(Env {
-        variables: Variables(List::new(alloc)),
+    Env {
+        variables,
         current: current(db),
-        minima: minima(alloc, db.tables.as_slice())?,
-        names: schemas(alloc, db.tables.as_slice())?,
-    })
+        tables,
+    }
 }
 
 /// The version that the second argument of CHANGETABLE(CHANGES ..) gives; NULL gives none.
@@ -125,7 +97,7 @@ fn changes_since(alloc: Global, db: &Db, table: u32, last: &Value) -> Result<Lis
 fn changes_rows(
     alloc: Global,
     db: &Db,
-    env: &Env,
+    env: &Env<'_>,
     table: u32,
     last: &BoundExpr,
 ) -> Result<List<Row>, Refusal>
@@ -141,7 +113,7 @@ fn changes_rows(
 fn made_rows(
     alloc: Global,
     db: &Db,
-    env: &Env,
+    env: &Env<'_>,
     source: &Option<BoundSource>,
 ) -> Result<List<Row>, Refusal>
     requires { env.now ≡ spec.env_of db.now }
@@ -175,10 +147,17 @@ fn chosen_rows<'a>(db: &'a Db, source: &Option<BoundSource>, made: &'a [Row]) ->
 
 /// What a SELECT answers.
 #[tactic(auto, using(crate::proofs::Rows::optional_made))]
-pub(crate) fn selected(alloc: Global, db: &Db, query: &BoundSelect) -> Result<Grid, Refusal>
+pub(crate) fn selected(
+    alloc: Global,
+    db: &Db,
+    tables: &[Catalogued],
+    query: &BoundSelect,
+) -> Result<Grid, Refusal>
+    requires { tables.now ≡ spec.catalogue db.now }
     ensures { Gives (spec.selected db.now query.now) result }
 {
-    let env = env(alloc, db)?;
+    let variables = Variables(List::new(alloc));
+    let env = env(db, &variables, tables);
     let left = made_rows(alloc, db, &env, &query.left)?;
     let right = made_rows(alloc, db, &env, &query.right)?;
     let left = chosen_rows(db, &query.left, left.as_slice());

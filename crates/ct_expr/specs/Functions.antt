@@ -1,13 +1,13 @@
 -- The functions of expressions, by the values of their arguments: T-SQL's OBJECT_ID, COLUMNPROPERTY and ISNULL, and those
 -- of change tracking. An argument of another kind than the function takes gives NULL, which happens in no expression
 -- that is well formed.
-use Rattle.std.specs.Prelude.{ℕ, ◌+◌, ◌^◌, ℤ, pos, Bool, true, false, nat_lt, codes, List, [], ◌∷◌, slice_get, find, Option, Some, None, if◌then◌else◌}
+use Rattle.std.specs.Prelude.{ℕ, ◌+◌, ◌^◌, ℤ, pos, Bool, true, false, nat_lt, codes, List, slice_get, find, Option, Some, None, if◌then◌else◌}
 use Rattle.std.specs.List.{position}
 use Rattle.std.specs.Option.{option_map, option_and_then}
 use Rattle.std.specs.Ordering.{int_eq}
 use Rattle.ct_types.specs.declared.bound.VersionColumn.{VersionColumn}
 use Rattle.ct_types.specs.declared.bound.VersionColumn.TheVariants as shown
-use Rattle.ct_types.specs.declared.schema.Schema.{Schema}
+use Rattle.ct_types.specs.declared.catalogue.Catalogued.{Catalogued}
 use Rattle.ct_types.specs.declared.tracked.VersionRow.{VersionRow}
 use Rattle.ct_types.specs.declared.value.Key.{Key}
 use Rattle.ct_types.specs.declared.value.Value.{Value}
@@ -43,35 +43,33 @@ if_null a b = if is_null a then b else a
 -- ---- tables and columns by name and by id
 
 -- OBJECT_ID
-abbrev pub object_id : List Schema → Value → Value
-object_id tables (Text name) = counted_or_null (option_map (λ table. table.id) (table_named tables name))
+abbrev pub object_id : List Catalogued → Value → Value
+object_id tables (Text name) = counted_or_null (option_map (λ table. table.schema.id) (table_named tables name))
 object_id tables v = Null
 
-abbrev pub table_of : List Schema → ℤ → Option Schema
-table_of tables id = find (λ table. int_eq (pos table.id) id) tables
+abbrev pub table_of : List Catalogued → ℤ → Option Catalogued
+table_of tables id = find (λ table. int_eq (pos table.schema.id) id) tables
 
 -- columns are numbered from 1
-abbrev pub column_id : List ℕ → Schema → Option ℕ
-column_id name table = option_map (λ place. place + 1) (position (λ column. same column.name name) table.columns)
+abbrev pub column_id : List ℕ → Catalogued → Option ℕ
+column_id name table = option_map (λ place. place + 1) (position (λ column. same column.name name) table.schema.columns)
 
 -- COLUMNPROPERTY, which tells one property
-abbrev pub column_property : List Schema → Value → Value → Value → Value
+abbrev pub column_property : List Catalogued → Value → Value → Value → Value
 column_property tables (Int table) (Text column) (Text property) =
     if same property (codes "ColumnId") then counted_or_null (option_and_then (column_id column) (table_of tables table)) else Null
 column_property tables table column property = Null
 
 -- ---- change tracking
 
--- the minimum that stands in the place of this table; none where the table is unknown or not tracked
-abbrev pub minimum_of : List Schema → List (Option ℕ) → ℤ → Option ℕ
-minimum_of [] minima id = None
-minimum_of (table ∷ tables) [] id = None
-minimum_of (table ∷ tables) (minimum ∷ minima) id = if int_eq (pos table.id) id then minimum else minimum_of tables minima id
+-- the least version that a client of a table may hold; none where the table is not tracked
+abbrev pub minimum_of : Catalogued → Option ℕ
+minimum_of table = option_map (λ tracked. tracked.min) table.tracked
 
--- CHANGE_TRACKING_MIN_VALID_VERSION
-abbrev pub min_valid_version : List Schema → List (Option ℕ) → Value → Value
-min_valid_version tables minima (Int id) = counted_or_null (minimum_of tables minima id)
-min_valid_version tables minima v = Null
+-- CHANGE_TRACKING_MIN_VALID_VERSION: NULL where there is no such table, or it is not tracked
+abbrev pub min_valid_version : List Catalogued → Value → Value
+min_valid_version tables (Int id) = counted_or_null (option_and_then minimum_of (table_of tables id))
+min_valid_version tables v = Null
 
 abbrev pub one_or_zero : Bool → Value
 one_or_zero true = Int (pos 1)

@@ -17,8 +17,8 @@ use Rattle.ct_types.specs.declared.value.Key.{Key}
 use Rattle.ct_types.specs.declared.value.Row.{Row}
 use Rattle.ct_types.specs.declared.value.Value.{Value}
 use Rattle.ct_types.specs.declared.value.Value.TheVariants as v
-use Rattle.ct_expr.specs.declared.env.Env.{Env}
 use Rattle.ct_types.specs.Answers.{Answer, ◌>>=◌}
+use Rattle.ct_expr.specs.Environment.{Environment}
 use Rattle.ct_expr.specs.Logic.{Truth, is_true, not3, and3, or3}
 use Rattle.ct_expr.specs.Numbers.{plus, minus, times, negative, compare, is_null}
 use Rattle.ct_expr.specs.Functions.{or_null, counted_or_null, if_null, object_id, column_property, min_valid_version, is_column_in_mask, version_column}
@@ -26,15 +26,15 @@ use Rattle.ct_expr.specs.Functions.{or_null, counted_or_null, if_null, object_id
 -- on what an expression is evaluated; `versions` has one row for each table, by its id, and each key
 pub record Scene : Type 0 where
   pub row : Row
-  pub env : Env
+  pub env : Environment
   pub versions : ℕ → Key → VersionRow
 
-abbrev pub scene : Row → Env → (ℕ → Key → VersionRow) → Scene
+abbrev pub scene : Row → Environment → (ℕ → Key → VersionRow) → Scene
 scene row env versions = record { row = row; env = env; versions = versions }
 
 -- what the expressions of a statement may read beside a row
 pub record World : Type 0 where
-  pub env : Env
+  pub env : Environment
   pub versions : ℕ → Key → VersionRow
 
 abbrev pub on : World → Row → Scene
@@ -98,10 +98,10 @@ value_rule s (e.Bytes b) = Ok (v.Bytes b)
 value_rule s (e.Column at) = Ok (or_null (slice_get s.row.0 at))
 value_rule s (e.Variable at) = Ok (or_null (option_map (λ variable. variable.value) (slice_get s.env.variables.0 at)))
 value_rule s e.CurrentVersion = Ok (counted_or_null s.env.current)
-value_rule s (e.MinValidVersion table) = of_one (min_valid_version s.env.names s.env.minima) table
+value_rule s (e.MinValidVersion table) = of_one (min_valid_version s.env.tables) table
 value_rule s (e.IsColumnInMask column mask) = of_two is_column_in_mask column mask
-value_rule s (e.ObjectId name) = of_one (object_id s.env.names) name
-value_rule s (e.ColumnProperty table column property) = of_three (column_property s.env.names) table column property
+value_rule s (e.ObjectId name) = of_one (object_id s.env.tables) name
+value_rule s (e.ColumnProperty table column property) = of_three (column_property s.env.tables) table column property
 value_rule s (e.IfNull a b) = of_two if_null a b
 value_rule s (e.Scalar value) = value
 value_rule s (e.Negative a) = a.value >>= negative

@@ -26,7 +26,7 @@ pub fn eval<L: Versions>(
     alloc: Global,
     expr: &BoundExpr,
     row: &Row,
-    env: &Env,
+    env: &Env<'_>,
     versions: &L,
 ) -> Result<Value, Refusal>
     ensures { Gives (spec.value (scene row.now env.now (L.row_of versions.now)) expr.now) result }
@@ -46,7 +46,7 @@ pub fn truth<L: Versions>(
     alloc: Global,
     expr: &BoundExpr,
     row: &Row,
-    env: &Env,
+    env: &Env<'_>,
     versions: &L,
 ) -> Result<Option<bool>, Refusal>
     ensures { Gives (spec.truth (scene row.now env.now (L.row_of versions.now)) expr.now) result }
@@ -66,7 +66,7 @@ pub fn holds<L: Versions>(
     alloc: Global,
     condition: &Option<BoundExpr>,
     row: &Row,
-    env: &Env,
+    env: &Env<'_>,
     versions: &L,
 ) -> Result<bool, Refusal>
     ensures { Gives (spec.holds (record { env = env.now; versions = L.row_of versions.now }) condition.now row.now) result }
@@ -82,7 +82,7 @@ pub fn holds<L: Versions>(
 struct Scene<'a, L> {
     alloc: Global,
     row: &'a Row,
-    env: &'a Env,
+    env: &'a Env<'a>,
     versions: &'a L,
 }
 
@@ -91,7 +91,7 @@ impl<L: Versions> Scene<'_, L> {
     fn value(&self, expr: &BoundExpr) -> Result<Value, Refusal>
         ensures { Gives (spec.value (scene self.now.row.now self.now.env.now (L.row_of self.now.versions.now)) expr.now) result }
     {
-        let tables = self.env.names.as_slice();
+        let env = self.env;
         match expr {
             BoundExpr::Null => Ok(Value::Null),
             BoundExpr::Number(number) => Ok(Value::Int(*number)),
@@ -99,12 +99,12 @@ impl<L: Versions> Scene<'_, L> {
             BoundExpr::Bytes(bytes) => Ok(Value::Bytes(bytes.copy(self.alloc)?)),
             BoundExpr::Column(at) => Ok(value_at(self.alloc, self.row.0.as_slice(), *at)?),
             BoundExpr::Variable(at) => {
-                Ok(variable_at(self.alloc, self.env.variables.0.as_slice(), *at)?)
+                Ok(variable_at(self.alloc, env.variables.0.as_slice(), *at)?)
             }
-            BoundExpr::CurrentVersion => Ok(counted_or_null(self.env.current)),
+            BoundExpr::CurrentVersion => Ok(counted_or_null(env.current)),
             BoundExpr::MinValidVersion(table) => {
                 let table = self.value(table.get())?;
-                Ok(min_valid_version(tables, self.env.minima.as_slice(), &table))
+                Ok(min_valid_version(env.tables, &table))
             }
             BoundExpr::IsColumnInMask(column, mask) => {
                 let column = self.value(column.get())?;
@@ -112,12 +112,12 @@ impl<L: Versions> Scene<'_, L> {
             }
             BoundExpr::ObjectId(name) => {
                 let name = self.value(name.get())?;
-                Ok(object_id(self.alloc, tables, &name)?)
+                Ok(object_id(self.alloc, env.tables, &name)?)
             }
             BoundExpr::ColumnProperty(table, column, property) => {
                 let table = self.value(table.get())?;
                 let column = self.value(column.get())?;
-                Ok(column_property(tables, &table, &column, &self.value(property.get())?))
+                Ok(column_property(env.tables, &table, &column, &self.value(property.get())?))
             }
             BoundExpr::IfNull(a, b) => Ok(if_null(self.value(a.get())?, self.value(b.get())?)),
             BoundExpr::Scalar(scalar) => self.scalar(scalar.get()),

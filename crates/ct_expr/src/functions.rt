@@ -1,6 +1,6 @@
-ghost use Rattle.std.specs.Prelude.{◌≡◌, ℕ, ◌+◌, ◌-◌, ◌++◌, ◌∷◌, [], IfOk, map, slice_get};
+ghost use Rattle.std.specs.Prelude.{◌≡◌, ℕ, ◌+◌, ◌-◌, ◌++◌, ◌∷◌, [], IfOk, slice_get};
 ghost use Rattle.std.specs.List.{position};
-ghost use Rattle.std.specs.Option.{option_map, option_and_then};
+ghost use Rattle.std.specs.Option.{option_map, option_and_then, option_copied};
 ghost use Rattle.ct_bind_names.specs.Names.{same};
 ghost use Rattle.ct_expr.specs.Functions as spec;
 
@@ -9,7 +9,7 @@ use crate::tables::table_named;
 use ct_bind_names::same_name;
 use ct_mask::read;
 use ct_types::{
-    Bin, Column, Copies, Key, List, Memory, Schema, Value, Variable, VersionColumn, VersionRow,
+    Bin, Catalogued, Column, Copies, Key, List, Memory, Value, Variable, VersionColumn, VersionRow,
 };
 use std::alloc::Global;
 
@@ -23,8 +23,8 @@ pub(crate) fn value_at(alloc: Global, values: &[Value], at: u32) -> Result<Value
     }
 }
 
-/// The value of the variable in a place.
-pub(crate) fn variable_at(alloc: Global, variables: &[Variable], at: u32) -> Result<Value, Memory>
+/// The value of the variable at a place, counted from 0; NULL where there is none. `Memory` is the only error.
+pub fn variable_at(alloc: Global, variables: &[Variable], at: u32) -> Result<Value, Memory>
     ensures { IfOk result (λ value. value ≡ spec.or_null (option_map (λ variable. variable.value) (slice_get variables.now at))) }
 {
     match variables.get(at as usize) {
@@ -70,22 +70,24 @@ pub(crate) fn if_null(a: Value, b: Value) -> Value
 }
 
 /// OBJECT_ID
-pub(crate) fn object_id(alloc: Global, tables: &[Schema], name: &Value) -> Result<Value, Memory>
+pub(crate) fn object_id(alloc: Global, tables: &[Catalogued], name: &Value) -> Result<Value, Memory>
     ensures { IfOk result (λ id. id ≡ spec.object_id tables.now name.now) }
 {
     match name {
         Value::Text(name) => match table_named(alloc, tables, name.as_str())? {
-            Some(table) => Ok(counted(u64::from(table.id))),
+            Some(table) => Ok(counted(u64::from(table.schema.id))),
             None => Ok(Value::Null),
         },
         _ => Ok(Value::Null),
     }
 }
 
-fn table_of(tables: &[Schema], id: i64) -> Option<&Schema>
-    ensures { option_map (λ table. table.now) result ≡ spec.table_of tables.now id }
+fn table_of(tables: &[Catalogued], id: i64) -> Option<&Catalogued>
+    ensures { option_copied result ≡ spec.table_of tables.now id }
 {
-    tables.iter().find(|table| i64::from(table.id) == id)
+    tables
+        .iter()
+        .find(|table| i64::from(table.schema.id) == id)
 }
 
 fn place_of(name: &str, columns: &[Column]) -> Option<usize>
@@ -97,16 +99,16 @@ fn place_of(name: &str, columns: &[Column]) -> Option<usize>
 }
 
 /// The id of the column of that name.
-fn column_id(name: &str, table: &Schema) -> Option<u64>
+fn column_id(name: &str, table: &Catalogued) -> Option<u64>
     ensures { result ≡ spec.column_id name.now table.now }
 {
-    match place_of(name, table.columns.as_slice()) {
+    match place_of(name, table.schema.columns.as_slice()) {
         Some(place) => Some(place as u64 + 1),
         None => None,
     }
 }
 
-fn column_id_in(tables: &[Schema], table: i64, name: &str) -> Option<u64>
+fn column_id_in(tables: &[Catalogued], table: i64, name: &str) -> Option<u64>
     ensures { result ≡ option_and_then (spec.column_id name.now) (spec.table_of tables.now table) }
 {
     match table_of(tables, table) {
@@ -117,7 +119,7 @@ fn column_id_in(tables: &[Schema], table: i64, name: &str) -> Option<u64>
 
 /// COLUMNPROPERTY
 pub(crate) fn column_property(
-    tables: &[Schema],
+    tables: &[Catalogued],
     table: &Value,
     column: &Value,
     property: &Value,
@@ -136,30 +138,31 @@ pub(crate) fn column_property(
     }
 }
 
-fn minimum_of(tables: &[Schema], minima: &[Option<u64>], id: i64) -> Option<u64>
-    ensures { result ≡ spec.minimum_of tables.now minima.now id }
+/// The least version that a client of a table may hold.
+fn minimum_of(table: &Catalogued) -> Option<u64>
+    ensures { result ≡ spec.minimum_of table.now }
 {
-    match tables {
-        [] => None,
-        [table, tables @ ..] => match minima {
-            [] => None,
-            [minimum, minima @ ..] => {
-                if i64::from(table.id) == id {
-                    *minimum
-                } else {
-                    minimum_of(tables, minima, id)
-                }
-            }
-        },
+    match table.tracked {
+        Some(tracked) => Some(tracked.min),
+        None => None,
+    }
+}
+
+fn minimum_in(tables: &[Catalogued], table: i64) -> Option<u64>
+    ensures { result ≡ option_and_then spec.minimum_of (spec.table_of tables.now table) }
+{
+    match table_of(tables, table) {
+        Some(table) => minimum_of(table),
+        None => None,
     }
 }
 
 /// CHANGE_TRACKING_MIN_VALID_VERSION
-pub(crate) fn min_valid_version(tables: &[Schema], minima: &[Option<u64>], table: &Value) -> Value
-    ensures { result ≡ spec.min_valid_version tables.now minima.now table.now }
+pub(crate) fn min_valid_version(tables: &[Catalogued], table: &Value) -> Value
+    ensures { result ≡ spec.min_valid_version tables.now table.now }
 {
     match table {
-        Value::Int(id) => counted_or_null(minimum_of(tables, minima, *id)),
+        Value::Int(id) => counted_or_null(minimum_in(tables, *id)),
         _ => Value::Null,
     }
 }

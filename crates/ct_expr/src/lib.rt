@@ -11,6 +11,7 @@ mod tables;
 
 pub use env::{Env, Versions};
 pub use evaluator::{eval, holds, truth};
-pub use functions::{bytes_or_null, counted, counted_or_null};
+pub use functions::{bytes_or_null, counted, counted_or_null, variable_at};
 pub use laws::{de_morgan, double_negation, mirror, text_names};
+pub use numbers::negative;
 pub use tables::table_named;

@@ -34,8 +34,9 @@ pub(crate) fn times(a: &Value, b: &Value) -> Result<Value, Refusal>
     }
 }
 
-/// A number with the other sign; NULL of NULL.
-pub(crate) fn negative(a: &Value) -> Result<Value, Refusal>
+/// A number with the other sign; NULL of NULL, and of a value that is no number. `Overflow` where it does not fit 64 bits, as
+/// that of the least number does not.
+pub fn negative(a: &Value) -> Result<Value, Refusal>
     ensures { result ≡ spec.negative a.now }
 {
     match a {

@@ -3,9 +3,9 @@ use Rattle.std.proofs.Common.{◌≡◌, ◌≢◌, ℕ, zero, suc, ◌^◌, ℤ
 use Rattle.std.specs.List.{slice_get}
 use Rattle.std.specs.Option.{option_map, option_and_then}
 use Rattle.std.specs.Prelude.{codes}
+use Rattle.ct_types.specs.declared.catalogue.Catalogued.{Catalogued}
 use Rattle.ct_types.specs.declared.schema.ColType.{ColType}
 use Rattle.ct_types.specs.declared.schema.ColType.TheVariants as type
-use Rattle.ct_types.specs.declared.schema.Schema.{Schema}
 use Rattle.ct_types.specs.declared.refusal.Refusal.TheVariants.{Overflow}
 use Rattle.ct_types.specs.declared.value.Value.{Value}
 use Rattle.ct_types.specs.declared.value.Value.TheVariants as v
@@ -90,17 +90,17 @@ one_or_zero_fits : (test : Bool) → IsOfKind Number (one_or_zero test)
 one_or_zero_fits true = tt
 one_or_zero_fits false = tt
 
-pub object_id_fits : (tables : List Schema) (x : Value) → IsOfKind Number (object_id tables x)
+pub object_id_fits : (tables : List Catalogued) (x : Value) → IsOfKind Number (object_id tables x)
 object_id_fits tables v.Null = tt
 object_id_fits tables (v.Int n) = tt
-object_id_fits tables (v.Text name) = counted_fits (option_map (λ table. table.id) (table_named tables name))
+object_id_fits tables (v.Text name) = counted_fits (option_map (λ table. table.schema.id) (table_named tables name))
 object_id_fits tables (v.Bytes b) = tt
 
-pub min_valid_version_fits : (tables : List Schema) (minima : List (Option ℕ)) (x : Value) → IsOfKind Number (min_valid_version tables minima x)
-min_valid_version_fits tables minima v.Null = tt
-min_valid_version_fits tables minima (v.Int id) = counted_fits (minimum_of tables minima id)
-min_valid_version_fits tables minima (v.Text t) = tt
-min_valid_version_fits tables minima (v.Bytes b) = tt
+pub min_valid_version_fits : (tables : List Catalogued) (x : Value) → IsOfKind Number (min_valid_version tables x)
+min_valid_version_fits tables v.Null = tt
+min_valid_version_fits tables (v.Int id) = counted_fits (option_and_then minimum_of (table_of tables id))
+min_valid_version_fits tables (v.Text t) = tt
+min_valid_version_fits tables (v.Bytes b) = tt
 
 pub in_mask_fits : (x y : Value) → IsOfKind Number (is_column_in_mask x y)
 in_mask_fits (v.Int id) v.Null = one_or_zero_fits (reads None id)
@@ -111,7 +111,7 @@ counted_if : (test : Bool) (o : Option ℕ) → IsOfKind Number (if test then co
 counted_if true o = counted_fits o
 counted_if false o = tt
 
-pub property_fits : (tables : List Schema) (x y z : Value) → IsOfKind Number (column_property tables x y z)
+pub property_fits : (tables : List Catalogued) (x y z : Value) → IsOfKind Number (column_property tables x y z)
 property_fits tables (v.Int table) (v.Text column) (v.Text property) =
     counted_if (same property (codes "ColumnId")) (option_and_then (column_id column) (table_of tables table))
 property_fits tables x y z = tt

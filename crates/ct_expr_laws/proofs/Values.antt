@@ -83,15 +83,15 @@ module _ (s : Scope) (scene : Scene) (fits : IsSceneOf s scene) where
       (at_place (map kind_of_type s.variables) (map (λ (variable : Variable). variable.value) scene.env.variables.0) at kind fits.variables (slice_get-map kind_of_type s.variables at ∙ is)))
   form e.CurrentVersion = of_value Number (counted_or_null scene.env.current) (counted_fits scene.env.current)
   form (e.MinValidVersion table) = of_number _ _ (after_kept (IsOfKind Number) (meaning scene table.0).value _
-      (λ x. ok_kept (IsOfKind Number) (f.min_valid_version scene.env.names scene.env.minima x) (min_valid_version_fits scene.env.names scene.env.minima x)))
+      (λ x. ok_kept (IsOfKind Number) (f.min_valid_version scene.env.tables x) (min_valid_version_fits scene.env.tables x)))
   form (e.IsColumnInMask column mask) = of_number _ _ (after_kept (IsOfKind Number) (meaning scene column.0).value _ (λ x.
       after_kept (IsOfKind Number) (meaning scene mask.0).value _ (λ y. ok_kept (IsOfKind Number) (f.is_column_in_mask x y) (in_mask_fits x y))))
   form (e.ObjectId name) = of_number _ _ (after_kept (IsOfKind Number) (meaning scene name.0).value _
-      (λ x. ok_kept (IsOfKind Number) (f.object_id scene.env.names x) (object_id_fits scene.env.names x)))
+      (λ x. ok_kept (IsOfKind Number) (f.object_id scene.env.tables x) (object_id_fits scene.env.tables x)))
   form (e.ColumnProperty table column property) = of_number _ _ (after_kept (IsOfKind Number) (meaning scene table.0).value _ (λ x.
       after_kept (IsOfKind Number) (meaning scene column.0).value _ (λ y.
       after_kept (IsOfKind Number) (meaning scene property.0).value _ (λ z.
-      ok_kept (IsOfKind Number) (f.column_property scene.env.names x y z) (property_fits scene.env.names x y z)))))
+      ok_kept (IsOfKind Number) (f.column_property scene.env.tables x y z) (property_fits scene.env.tables x y z)))))
   form (e.IfNull a b) = if_null_of (kind_of s a.0) (kind_of s b.0) (meaning scene a.0).value (meaning scene b.0).value a.1 b.1
   form (e.Scalar x) = x.1
   form (e.Negative a) = of_number _ _ (after_kept (IsOfKind Number) (meaning scene a.0).value _ negative_kept)

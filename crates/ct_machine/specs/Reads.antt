@@ -24,7 +24,7 @@ use Rattle.ct_model.specs.declared.db.Table.{Table}
 use Rattle.ct_model.specs.Net.{net}
 use Rattle.ct_model.specs.Tables.{catalogued, table_of}
 use Rattle.ct_model.specs.Versions.{current}
-use Rattle.ct_expr.specs.declared.env.Env.{Env}
+use Rattle.ct_expr.specs.Environment.{Environment}
 use Rattle.ct_expr.specs.Functions.{counted, counted_or_null, bytes_or_null}
 use Rattle.ct_expr.specs.Meaning.{World, on, value}
 use Rattle.ct_types.specs.Answers.{Answer, ◌>>=◌}
@@ -38,17 +38,12 @@ catalogue db = map catalogued db.tables
 
 -- ---- expressions
 
--- the least version that a client of a table may hold, none where the table is not tracked
-abbrev pub minimum_of : Table → Option ℕ
-minimum_of table = option_map (λ tracked. tracked.min) table.tracked
-
 -- what expressions may ask for beside their row; there are no variables yet
-abbrev pub env_of : Db → Env
+abbrev pub env_of : Db → Environment
 env_of db = record {
   variables = record { 0 = [] };
   current = current db;
-  minima = map minimum_of db.tables;
-  names = map (λ table. table.schema) db.tables;
+  tables = catalogue db;
 }
 
 -- CHANGETABLE(VERSION ..) is not built, so nothing asks for its rows

@@ -10,7 +10,8 @@ use Rattle.ct_types.specs.Answers.{Answer, ◌>>=◌}
 use Rattle.ct_expr.specs.Meaning.{holds}
 use Rattle.ct_query.specs.Joins.{Joined, pair, left_only, right_only, with_right, with_left, or_else, is_pair, turned}
 use Rattle.ct_query.specs.Laws.{InnerIsLeftPaired, RightMirrorsLeft, SamePairs, TrueKeepsAll}
-use Rattle.ct_query.specs.Lists.{all_of, only}
+use Rattle.ct_expr.specs.Conditions.{only}
+use Rattle.ct_query.specs.Lists.{all_of}
 use Rattle.ct_query.proofs.Through.{all_of-through, only-through}
 
 -- ---- INNER and LEFT

@@ -5,7 +5,8 @@ use Rattle.std.proofs.lemmas.List.{map-append}
 use Rattle.std.proofs.lemmas.Grind.{common_steps}
 use Rattle.ct_types.specs.declared.refusal.Refusal.{Refusal}
 use Rattle.ct_types.specs.Answers.{Answer, ◌>>=◌, each}
-use Rattle.ct_query.specs.Lists.{all_of, only}
+use Rattle.ct_expr.specs.Conditions.{only}
+use Rattle.ct_query.specs.Lists.{all_of}
 
 -- ---- joined lists
 

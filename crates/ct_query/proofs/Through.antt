@@ -1,7 +1,8 @@
 -- What is made of the members of a list may be made of the list of them.
 use Rattle.std.proofs.Common.{◌≡◌, Bool, true, false, cond, List, [], ◌∷◌, ◌++◌, map, Ok, Err, refl, sym, ap}
 use Rattle.ct_types.specs.Answers.{Answer, ◌>>=◌}
-use Rattle.ct_query.specs.Lists.{all_of, only}
+use Rattle.ct_expr.specs.Conditions.{only}
+use Rattle.ct_query.specs.Lists.{all_of}
 use Rattle.ct_query.specs.Joins.{or_else}
 
 -- ---- all_of

@@ -12,7 +12,7 @@ use Rattle.ct_types.specs.declared.value.Value.{Value}
 use Rattle.ct_types.specs.Answers.{Answer, ◌>>=◌, each}
 use Rattle.ct_expr.specs.Meaning.{World, on, value, holds}
 use Rattle.ct_query.specs.declared.shown.Shown.{Shown}
-use Rattle.ct_query.specs.Lists.{only}
+use Rattle.ct_expr.specs.Conditions.{only}
 use Rattle.ct_query.specs.Joins.{row_of, joined}
 use Rattle.ct_query.specs.Sorting.{keys_cmp, in_order}
 

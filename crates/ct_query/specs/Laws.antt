@@ -11,7 +11,7 @@ use Rattle.ct_query.specs.declared.shown.Shown.{Shown}
 use Rattle.ct_expr.specs.Meaning.{World, holds}
 use Rattle.ct_query.specs.Answer.{comes_before}
 use Rattle.ct_query.specs.Joins.{Joined, joined, is_pair, turned}
-use Rattle.ct_query.specs.Lists.{only}
+use Rattle.ct_expr.specs.Conditions.{only}
 use Rattle.ct_query.specs.Sorting.{in_order}
 
 -- an INNER JOIN is a LEFT JOIN without the rows that stand with NULLs

@@ -8,7 +8,7 @@ use Rattle.ct_types.specs.declared.value.Row.{Row}
 use Rattle.ct_types.specs.Answers.{Answer, ◌>>=◌}
 use Rattle.ct_expr.specs.Meaning.{World, holds}
 use Rattle.ct_query.specs.Joins.{Joined, pair, left_only, right_only, row_of, or_else}
-use Rattle.ct_query.specs.Lists.{only}
+use Rattle.ct_expr.specs.Conditions.{only}
 
 -- the values of a joined row of a plan
 abbrev pub row_in : Plan → Joined → Row

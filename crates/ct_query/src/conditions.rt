@@ -1,5 +1,5 @@
 ghost use Rattle.ct_expr.specs.Meaning as spec;
-ghost use Rattle.ct_query.specs.Lists.{only};
+ghost use Rattle.ct_expr.specs.Conditions.{only};
 ghost use Rattle.ct_query.specs.Steps.{GivesLent};
 
 use ct_expr::{Env, Versions, holds};
@@ -11,7 +11,7 @@ pub(crate) fn kept<'a, L: Versions>(
     alloc: Global,
     condition: &Option<BoundExpr>,
     rows: &'a [Row],
-    env: &Env,
+    env: &Env<'_>,
     versions: &L,
 ) -> Result<List<&'a Row>, Refusal>
     ensures { GivesLent (only (spec.holds (record { env = env.now; versions = L.row_of versions.now }) condition.now) rows.now) result }

@@ -62,7 +62,7 @@ fn pairs_of_left<L: Versions>(
     plan: &Plan,
     left: &Row,
     rights: &[Row],
-    env: &Env,
+    env: &Env<'_>,
     versions: &L,
 ) -> Result<List<Row>, Refusal>
     ensures { Gives (spec.pairs_of_left (record { env = env.now; versions = L.row_of versions.now }) plan.now rights.now left.now) result }
@@ -83,7 +83,7 @@ fn pairs_of_right<L: Versions>(
     plan: &Plan,
     lefts: &[Row],
     right: &Row,
-    env: &Env,
+    env: &Env<'_>,
     versions: &L,
 ) -> Result<List<Row>, Refusal>
     ensures { Gives (spec.pairs_of_right (record { env = env.now; versions = L.row_of versions.now }) plan.now lefts.now right.now) result }
@@ -104,7 +104,7 @@ fn rows_of_left<L: Versions>(
     plan: &Plan,
     left: &Row,
     rights: &[Row],
-    env: &Env,
+    env: &Env<'_>,
     versions: &L,
 ) -> Result<List<Row>, Refusal>
     ensures { Gives (spec.rows_of_left (record { env = env.now; versions = L.row_of versions.now }) plan.now rights.now left.now) result }
@@ -122,7 +122,7 @@ fn rows_of_right<L: Versions>(
     plan: &Plan,
     lefts: &[Row],
     right: &Row,
-    env: &Env,
+    env: &Env<'_>,
     versions: &L,
 ) -> Result<List<Row>, Refusal>
     ensures { Gives (spec.rows_of_right (record { env = env.now; versions = L.row_of versions.now }) plan.now lefts.now right.now) result }
@@ -140,7 +140,7 @@ pub(crate) fn inner<L: Versions>(
     plan: &Plan,
     lefts: &[Row],
     rights: &[Row],
-    env: &Env,
+    env: &Env<'_>,
     versions: &L,
 ) -> Result<List<Row>, Refusal>
     ensures { Gives (all_of (spec.pairs_of_left (record { env = env.now; versions = L.row_of versions.now }) plan.now rights.now) lefts.now) result }
@@ -159,7 +159,7 @@ pub(crate) fn left_outer<L: Versions>(
     plan: &Plan,
     lefts: &[Row],
     rights: &[Row],
-    env: &Env,
+    env: &Env<'_>,
     versions: &L,
 ) -> Result<List<Row>, Refusal>
     ensures { Gives (all_of (spec.rows_of_left (record { env = env.now; versions = L.row_of versions.now }) plan.now rights.now) lefts.now) result }
@@ -178,7 +178,7 @@ pub(crate) fn right_outer<L: Versions>(
     plan: &Plan,
     lefts: &[Row],
     rights: &[Row],
-    env: &Env,
+    env: &Env<'_>,
     versions: &L,
 ) -> Result<List<Row>, Refusal>
     ensures { Gives (all_of (spec.rows_of_right (record { env = env.now; versions = L.row_of versions.now }) plan.now lefts.now) rights.now) result }

@@ -18,7 +18,7 @@ fn values<L: Versions>(
     alloc: Global,
     exprs: &[BoundExpr],
     row: &Row,
-    env: &Env,
+    env: &Env<'_>,
     versions: &L,
 ) -> Result<List<Value>, Refusal>
     ensures { Gives (spec.values_on (record { env = env.now; versions = L.row_of versions.now }) row.now exprs.now) result }
@@ -34,7 +34,7 @@ fn keys<L: Versions>(
     alloc: Global,
     parts: &[OrderBy],
     row: &Row,
-    env: &Env,
+    env: &Env<'_>,
     versions: &L,
 ) -> Result<List<Value>, Refusal>
     ensures { Gives (spec.keys_on (record { env = env.now; versions = L.row_of versions.now }) row.now parts.now) result }
@@ -52,7 +52,7 @@ fn keys_of<L: Versions>(
     parts: &[OrderBy],
     row: &Row,
     values: &Row,
-    env: &Env,
+    env: &Env<'_>,
     versions: &L,
 ) -> Result<List<Value>, Refusal>
     ensures { Gives (spec.keys_on (record { env = env.now; versions = L.row_of versions.now }) (spec.with_items row.now values.now.0) parts.now) result }
@@ -69,7 +69,7 @@ fn show<L: Versions>(
     alloc: Global,
     plan: &Plan,
     row: &Row,
-    env: &Env,
+    env: &Env<'_>,
     versions: &L,
 ) -> Result<Shown, Refusal>
     ensures { Gives (spec.shown (record { env = env.now; versions = L.row_of versions.now }) plan.now row.now) result }
@@ -83,7 +83,7 @@ fn show_all<L: Versions>(
     alloc: Global,
     plan: &Plan,
     rows: &[&Row],
-    env: &Env,
+    env: &Env<'_>,
     versions: &L,
 ) -> Result<List<Shown>, Refusal>
     ensures { Gives (each (spec.shown (record { env = env.now; versions = L.row_of versions.now }) plan.now) (lent rows.now)) result }
@@ -118,7 +118,7 @@ fn answer<L: Versions>(
     alloc: Global,
     plan: &Plan,
     rows: &[Row],
-    env: &Env,
+    env: &Env<'_>,
     versions: &L,
 ) -> Result<Grid, Refusal>
     ensures { Gives (spec.answer_over (record { env = env.now; versions = L.row_of versions.now }) plan.now rows.now) result }
@@ -133,7 +133,7 @@ fn one_source<L: Versions>(
     alloc: Global,
     plan: &Plan,
     rows: &[Row],
-    env: &Env,
+    env: &Env<'_>,
     versions: &L,
 ) -> Result<Grid, Refusal>
     ensures { Gives (spec.answer_over (record { env = env.now; versions = L.row_of versions.now }) plan.now (only_source plan.now.left rows.now)) result }
@@ -164,7 +164,7 @@ pub fn select<L: Versions>(
     plan: &Plan,
     left: &[Row],
     right: &[Row],
-    env: &Env,
+    env: &Env<'_>,
     versions: &L,
 ) -> Result<Grid, Refusal>
     ensures { Gives (spec.answer (record { env = env.now; versions = L.row_of versions.now }) plan.now left.now right.now) result }

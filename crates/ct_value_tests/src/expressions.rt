@@ -23,12 +23,11 @@ impl Versions for Unchanged {
     }
 }
 
-fn empty_env(alloc: Global) -> Env {
+fn empty_env(variables: &Variables) -> Env<'_> {
     Env {
-        variables: Variables(List::new(alloc)),
+        variables,
         current: None,
-        minima: List::new(alloc),
-        names: List::new(alloc),
+        tables: &[],
     }
 }
 
@@ -40,11 +39,12 @@ fn number(n: Option<i64>) -> BoundExpr {
 }
 
 fn value_of(alloc: Global, expr: &BoundExpr) -> Result<Option<i64>, Refusal> {
+    let variables = Variables(List::new(alloc));
     match eval(
         alloc,
         expr,
         &Row(List::new(alloc)),
-        &empty_env(alloc),
+        &empty_env(&variables),
         &Unchanged,
     )? {
         Value::Int(n) => Ok(Some(n)),
@@ -53,11 +53,12 @@ fn value_of(alloc: Global, expr: &BoundExpr) -> Result<Option<i64>, Refusal> {
 }
 
 fn truth_of(alloc: Global, expr: &BoundExpr) -> Result<Option<bool>, Refusal> {
+    let variables = Variables(List::new(alloc));
     truth(
         alloc,
         expr,
         &Row(List::new(alloc)),
-        &empty_env(alloc),
+        &empty_env(&variables),
         &Unchanged,
     )
 }

@@ -139,11 +139,11 @@ fn order(alloc: Global, parts: &[(u32, bool)]) -> Result<List<OrderBy>, Memory> 
 // ---- answers
 
 fn answer(alloc: Global, plan: &Plan) -> Result<Grid, Refusal> {
+    let variables = Variables(List::new(alloc));
     let env = Env {
-        variables: Variables(List::new(alloc)),
+        variables: &variables,
         current: None,
-        minima: List::new(alloc),
-        names: List::new(alloc),
+        tables: &[],
     };
     let left = rows(alloc, &LEFT)?;
     let right = rows(alloc, &RIGHT)?;

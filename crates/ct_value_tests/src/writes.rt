@@ -31,12 +31,11 @@ impl Versions for Unchanged {
     }
 }
 
-fn empty_env(alloc: Global) -> Env {
+fn empty_env(variables: &Variables) -> Env<'_> {
     Env {
-        variables: Variables(List::new(alloc)),
+        variables,
         current: None,
-        minima: List::new(alloc),
-        names: List::new(alloc),
+        tables: &[],
     }
 }
 
@@ -124,7 +123,8 @@ fn written_on(
 ) -> Result<List<Write>, Refusal>
     requires { NamesIds bound.now.change }
 {
-    let env = empty_env(alloc);
+    let variables = Variables(List::new(alloc));
+    let env = empty_env(&variables);
     writes(alloc, bound, table, rows, &env, &Unchanged)
 }
 

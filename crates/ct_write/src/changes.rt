@@ -26,7 +26,7 @@ fn insert_one<L: Versions>(
     schema: &Schema,
     columns: &[u16],
     tuple: &[BoundExpr],
-    env: &Env,
+    env: &Env<'_>,
     versions: &L,
 ) -> Result<Changed, Refusal>
     ensures { Gives (spec.inserted (record { env = env.now; versions = L.row_of versions.now }) schema.now columns.now tuple.now) result }
@@ -48,7 +48,7 @@ fn insert_all<L: Versions>(
     schema: &Schema,
     columns: &[u16],
     tuples: &[Items<BoundExpr>],
-    env: &Env,
+    env: &Env<'_>,
     versions: &L,
 ) -> Result<List<Changed>, Refusal>
     ensures { Gives (each (spec.inserted (record { env = env.now; versions = L.row_of versions.now }) schema.now columns.now) tuples.now) result }
@@ -66,7 +66,7 @@ fn update_one<L: Versions>(
     schema: &Schema,
     sets: &[BoundSet],
     before: &Row,
-    env: &Env,
+    env: &Env<'_>,
     versions: &L,
 ) -> Result<Changed, Refusal>
     ensures { Gives (spec.updated (record { env = env.now; versions = L.row_of versions.now }) schema.now sets.now before.now) result }
@@ -86,7 +86,7 @@ fn update_all<L: Versions>(
     schema: &Schema,
     sets: &[BoundSet],
     rows: &[&Row],
-    env: &Env,
+    env: &Env<'_>,
     versions: &L,
 ) -> Result<List<Changed>, Refusal>
     ensures { Gives (each (spec.updated (record { env = env.now; versions = L.row_of versions.now }) schema.now sets.now) (lent rows.now)) result }

@@ -30,7 +30,7 @@ fn fit_context(alloc: Global, value: Value) -> Result<Option<Bin>, Refusal>
 pub(crate) fn context_of<L: Versions>(
     alloc: Global,
     context: &Option<BoundExpr>,
-    env: &Env,
+    env: &Env<'_>,
     versions: &L,
 ) -> Result<Option<Bin>, Refusal>
     ensures { Gives (spec.context_of (record { env = env.now; versions = L.row_of versions.now }) context.now) result }

@@ -12,7 +12,7 @@ pub(crate) fn tuple_values<L: Versions>(
     alloc: Global,
     tuple: &[BoundExpr],
     row: &Row,
-    env: &Env,
+    env: &Env<'_>,
     versions: &L,
 ) -> Result<List<Value>, Refusal>
     ensures { Gives (each (value (record { row = row.now; env = env.now; versions = L.row_of versions.now })) tuple.now) result }
@@ -29,7 +29,7 @@ pub(crate) fn set_values<L: Versions>(
     alloc: Global,
     sets: &[BoundSet],
     row: &Row,
-    env: &Env,
+    env: &Env<'_>,
     versions: &L,
 ) -> Result<List<Value>, Refusal>
     ensures { Gives (each (λ set. value (record { row = row.now; env = env.now; versions = L.row_of versions.now }) set.value) sets.now) result }

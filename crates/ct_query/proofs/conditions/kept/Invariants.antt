@@ -1,6 +1,6 @@
 use Rattle.std.proofs.Common.{◌≡◌, take, Ok}
 use Rattle.ct_expr.specs.Meaning.{holds}
-use Rattle.ct_query.specs.Lists.{only}
+use Rattle.ct_expr.specs.Conditions.{only}
 use Rattle.ct_query.specs.Steps.{lent}
 use Rattle.ct_query.proofs.conditions.kept.Given as goal
 
