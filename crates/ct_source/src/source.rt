@@ -59,12 +59,7 @@ impl<'a> Source<'a> {
 
     /// The rows with a value in the column at a place, counted from 0, lent in their order. Of a table whose key is this one
     /// column it is a look-up, and else a walk over all rows.
-    pub fn with_value(
-        &self,
-        alloc: Global,
-        at: u32,
-        value: &Value,
-    ) -> Result<List<&'a Row>, Memory>
+    pub fn with_value(&self, alloc: Global, at: u32, value: &Value) -> Result<List<&'a Row>, Memory>
         ensures { IfOk result (λ made. lent made ≡ filter (has_that_value at value.now) (source_rows self.now)) }
     {
         match self {

@@ -1,6 +1,6 @@
 ghost use Rattle.std.specs.Prelude.{◌≡◌, ◌+◌, ◌∷◌, ◌↔◌, [], None, Some, IfOk, OnOk, OnErr, IsTrue, filter};
 ghost use Rattle.std.specs.List.{AllByRecursion};
-ghost use Rattle.std.specs.Option.{option_copied};
+ghost use Rattle.std.specs.Option.{option_copied, option_to_list};
 ghost use Rattle.ct_model.specs.Tables.{key_of, row_at, has_row, rows_with};
 ghost use Rattle.ct_model.specs.Valid.{AreRising};
 ghost use Rattle.ct_source.specs.Cells.{has_value};
@@ -43,6 +43,17 @@ fn one_column(alloc: Global, value: &Value) -> Result<Key, Memory>
     let mut values = List::new(alloc);
     push(&mut values, value.copy(alloc)?)?;
     Ok(Key(values))
+}
+
+/// A list of the row that was found, if one was.
+fn lone(alloc: Global, found: Option<&Row>) -> Result<List<&Row>, Memory>
+    ensures { IfOk result (λ made. lent made ≡ option_to_list (option_copied found.entry)) }
+{
+    let mut made = List::new(alloc);
+    if let Some(row) = found {
+        push(&mut made, row)?;
+    }
+    Ok(made)
 }
 
 /// Whether the key is the one column at a place, counted from 0.
@@ -145,13 +156,9 @@ impl Stored {
         requires { self.now.schema.key ≡ (at + 1) ∷ [] }
         ensures { IfOk result (λ made. lent made ≡ filter (has_value at value.now) self.now.rows) }
     {
-        self.is_keyed();
+        self.rows_rise();
         let key = one_column(alloc, value)?;
-        let mut made = List::new(alloc);
-        if let Some(row) = self.get(&key) {
-            push(&mut made, row)?;
-        }
-        Ok(made)
+        lone(alloc, self.get(&key))
     }
 
     /// The rows with a value in a column, lent, of a walk over all rows.
@@ -180,7 +187,7 @@ impl Stored {
     }
 
     /// The rows stand in rising order of keys, each has a value for each column, and the ids of the key are columns.
-    pub fn is_keyed(&self)
+    pub fn rows_rise(&self)
         ensures rising { AreRising self.now.schema self.now.rows }
         ensures whole { AllByRecursion (IsWhole self.now.schema) self.now.rows }
         ensures columns { HasKeyColumns self.now.schema }

@@ -1,0 +1,2 @@
+pub mod OneColumn
+pub mod PairsByKey
