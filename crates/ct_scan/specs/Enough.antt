@@ -4,7 +4,7 @@ use Rattle.ct_types.specs.declared.bound.BoundExpr.{BoundExpr}
 use Rattle.ct_types.specs.declared.value.Row.{Row}
 use Rattle.ct_expr.specs.Environment.{Environment}
 use Rattle.ct_expr.specs.Meaning.{World, holds}
-use Rattle.ct_keyed.specs.Laws.{only}
+use Rattle.ct_expr.specs.Conditions.{only}
 
 -- some of the rows are enough: over them the condition is true on the same rows as over all, with the same refusal
 abbrev pub AreEnough : Environment → Option BoundExpr → List Row → List Row → Type 0

@@ -11,7 +11,7 @@ use Rattle.ct_types.specs.declared.value.Value.{Value}
 use Rattle.ct_types.specs.declared.value.Value.TheVariants.{Null}
 use Rattle.ct_model.specs.Tables.{key_of}
 use Rattle.ct_expr.specs.Meaning.{World, on, value, holds}
-use Rattle.ct_keyed.specs.Laws.{only}
+use Rattle.ct_expr.specs.Conditions.{only}
 use Rattle.ct_types.specs.Answers.{Answer, ◌>>=◌, each}
 use Rattle.ct_write.specs.declared.changes.Changed.{Changed}
 
