@@ -1,6 +1,5 @@
 -- The steps that the code takes. No promise speaks of them.
 use Rattle.std.specs.Prelude.{◌≡◌, ◌≢◌, List, map, Result, Ok, Err}
-use denote.Ref.{Bor}
 use Rattle.ct_types.specs.declared.refusal.Refusal.{Refusal}
 use Rattle.ct_types.specs.declared.refusal.Refusal.TheVariants.{Memory}
 use Rattle.ct_types.specs.declared.bound.Plan.{Plan}
@@ -27,11 +26,3 @@ rows_of_left world plan rights left = pairs_of_left world plan rights left >>= (
 
 abbrev pub rows_of_right : World → Plan → List Row → Row → Answer (List Row)
 rows_of_right world plan lefts right = pairs_of_right world plan lefts right >>= (λ found. Ok (or_else (row_in plan (right_only right)) found))
-
--- what a call that lends the members of a list answers: those that are wanted, or want of memory
-abbrev pub lent : {A : Type 0} → List (Bor A) → List A
-lent = map (λ one. one.now)
-
-abbrev pub GivesLent : {A : Type 0} → Answer (List A) → Result (List (Bor A)) Refusal → Type 0
-GivesLent wanted (Ok all) = wanted ≡ Ok (lent all)
-GivesLent wanted (Err refusal) = refusal ≢ Memory → wanted ≡ Err refusal

@@ -4,9 +4,13 @@ ghost use Rattle.ct_types.specs.Answers.{Gives};
 ghost use Rattle.ct_query.specs.Joins.{pair as a_pair, left_only as a_left, right_only as a_right, row_of, side_by_side};
 ghost use Rattle.ct_query.specs.Lists.{all_of};
 ghost use Rattle.ct_query.specs.Steps as spec;
+ghost use Rattle.ct_source.specs.Rows.{lent};
+ghost use Rattle.ct_source.specs.Sources.{source_rows};
 
 use crate::lists::append;
 use ct_expr::{Env, Versions, holds};
+use ct_scan::{lefts_of, rights_of};
+use ct_source::Source;
 use ct_types::{Copies, List, Memory, Plan, Refusal, Row, Value, push};
 use std::alloc::Global;
 
@@ -56,19 +60,55 @@ fn right_only(alloc: Global, columns: u32, right: &Row) -> Result<Row, Memory>
     Ok(Row(values))
 }
 
+/// The pairs of a left row with these right rows for which ON is true.
+fn true_pairs_of_left<L: Versions>(
+    alloc: Global,
+    plan: &Plan,
+    left: &Row,
+    rights: &[&Row],
+    env: &Env<'_>,
+    versions: &L,
+) -> Result<List<Row>, Refusal>
+    ensures { Gives (spec.pairs_of_left (record { env = env.now; versions = L.row_of versions.now }) plan.now (lent rights.now) left.now) result }
+{
+    let mut found = List::new(alloc);
+    for right in rights {
+        let row = pair(alloc, left, right)?;
+        if holds(alloc, &plan.on, &row, env, versions)? {
+            push(&mut found, row)?;
+        }
+    }
+    Ok(found)
+}
+
 /// The pairs of a left row for which ON is true.
 fn pairs_of_left<L: Versions>(
     alloc: Global,
     plan: &Plan,
     left: &Row,
-    rights: &[Row],
+    rights: Source<'_>,
     env: &Env<'_>,
     versions: &L,
 ) -> Result<List<Row>, Refusal>
-    ensures { Gives (spec.pairs_of_left (record { env = env.now; versions = L.row_of versions.now }) plan.now rights.now left.now) result }
+    ensures { Gives (spec.pairs_of_left (record { env = env.now; versions = L.row_of versions.now }) plan.now (source_rows rights.entry) left.now) result }
+{
+    let partners = rights_of(alloc, &plan.on, left, rights, env)?;
+    true_pairs_of_left(alloc, plan, left, partners.as_slice(), env, versions)
+}
+
+/// The pairs of a right row with these left rows for which ON is true.
+fn true_pairs_of_right<L: Versions>(
+    alloc: Global,
+    plan: &Plan,
+    lefts: &[&Row],
+    right: &Row,
+    env: &Env<'_>,
+    versions: &L,
+) -> Result<List<Row>, Refusal>
+    ensures { Gives (spec.pairs_of_right (record { env = env.now; versions = L.row_of versions.now }) plan.now (lent lefts.now) right.now) result }
 {
     let mut found = List::new(alloc);
-    for right in rights {
+    for left in lefts {
         let row = pair(alloc, left, right)?;
         if holds(alloc, &plan.on, &row, env, versions)? {
             push(&mut found, row)?;
@@ -81,21 +121,15 @@ fn pairs_of_left<L: Versions>(
 fn pairs_of_right<L: Versions>(
     alloc: Global,
     plan: &Plan,
-    lefts: &[Row],
+    lefts: Source<'_>,
     right: &Row,
     env: &Env<'_>,
     versions: &L,
 ) -> Result<List<Row>, Refusal>
-    ensures { Gives (spec.pairs_of_right (record { env = env.now; versions = L.row_of versions.now }) plan.now lefts.now right.now) result }
+    ensures { Gives (spec.pairs_of_right (record { env = env.now; versions = L.row_of versions.now }) plan.now (source_rows lefts.entry) right.now) result }
 {
-    let mut found = List::new(alloc);
-    for left in lefts {
-        let row = pair(alloc, left, right)?;
-        if holds(alloc, &plan.on, &row, env, versions)? {
-            push(&mut found, row)?;
-        }
-    }
-    Ok(found)
+    let partners = lefts_of(alloc, &plan.on, lefts, right, env)?;
+    true_pairs_of_right(alloc, plan, partners.as_slice(), right, env, versions)
 }
 
 /// The pairs of a left row, or the row with NULLs where there are none.
@@ -103,11 +137,11 @@ fn rows_of_left<L: Versions>(
     alloc: Global,
     plan: &Plan,
     left: &Row,
-    rights: &[Row],
+    rights: Source<'_>,
     env: &Env<'_>,
     versions: &L,
 ) -> Result<List<Row>, Refusal>
-    ensures { Gives (spec.rows_of_left (record { env = env.now; versions = L.row_of versions.now }) plan.now rights.now left.now) result }
+    ensures { Gives (spec.rows_of_left (record { env = env.now; versions = L.row_of versions.now }) plan.now (source_rows rights.entry) left.now) result }
 {
     let mut found = pairs_of_left(alloc, plan, left, rights, env, versions)?;
     if found.as_slice().is_empty() {
@@ -120,12 +154,12 @@ fn rows_of_left<L: Versions>(
 fn rows_of_right<L: Versions>(
     alloc: Global,
     plan: &Plan,
-    lefts: &[Row],
+    lefts: Source<'_>,
     right: &Row,
     env: &Env<'_>,
     versions: &L,
 ) -> Result<List<Row>, Refusal>
-    ensures { Gives (spec.rows_of_right (record { env = env.now; versions = L.row_of versions.now }) plan.now lefts.now right.now) result }
+    ensures { Gives (spec.rows_of_right (record { env = env.now; versions = L.row_of versions.now }) plan.now (source_rows lefts.entry) right.now) result }
 {
     let mut found = pairs_of_right(alloc, plan, lefts, right, env, versions)?;
     if found.as_slice().is_empty() {
@@ -138,12 +172,12 @@ fn rows_of_right<L: Versions>(
 pub(crate) fn inner<L: Versions>(
     alloc: Global,
     plan: &Plan,
-    lefts: &[Row],
-    rights: &[Row],
+    lefts: &[&Row],
+    rights: Source<'_>,
     env: &Env<'_>,
     versions: &L,
 ) -> Result<List<Row>, Refusal>
-    ensures { Gives (all_of (spec.pairs_of_left (record { env = env.now; versions = L.row_of versions.now }) plan.now rights.now) lefts.now) result }
+    ensures { Gives (all_of (spec.pairs_of_left (record { env = env.now; versions = L.row_of versions.now }) plan.now (source_rows rights.entry)) (lent lefts.now)) result }
 {
     let mut all = Vec::new(alloc);
     for left in lefts {
@@ -157,12 +191,12 @@ pub(crate) fn inner<L: Versions>(
 pub(crate) fn left_outer<L: Versions>(
     alloc: Global,
     plan: &Plan,
-    lefts: &[Row],
-    rights: &[Row],
+    lefts: &[&Row],
+    rights: Source<'_>,
     env: &Env<'_>,
     versions: &L,
 ) -> Result<List<Row>, Refusal>
-    ensures { Gives (all_of (spec.rows_of_left (record { env = env.now; versions = L.row_of versions.now }) plan.now rights.now) lefts.now) result }
+    ensures { Gives (all_of (spec.rows_of_left (record { env = env.now; versions = L.row_of versions.now }) plan.now (source_rows rights.entry)) (lent lefts.now)) result }
 {
     let mut all = Vec::new(alloc);
     for left in lefts {
@@ -176,12 +210,12 @@ pub(crate) fn left_outer<L: Versions>(
 pub(crate) fn right_outer<L: Versions>(
     alloc: Global,
     plan: &Plan,
-    lefts: &[Row],
-    rights: &[Row],
+    lefts: Source<'_>,
+    rights: &[&Row],
     env: &Env<'_>,
     versions: &L,
 ) -> Result<List<Row>, Refusal>
-    ensures { Gives (all_of (spec.rows_of_right (record { env = env.now; versions = L.row_of versions.now }) plan.now lefts.now) rights.now) result }
+    ensures { Gives (all_of (spec.rows_of_right (record { env = env.now; versions = L.row_of versions.now }) plan.now (source_rows lefts.entry)) (lent rights.now)) result }
 {
     let mut all = Vec::new(alloc);
     for right in rights {
@@ -192,8 +226,12 @@ pub(crate) fn right_outer<L: Versions>(
 }
 
 /// Each left row with the right row at its place.
-pub(crate) fn applied(alloc: Global, lefts: &[Row], rights: &[Row]) -> Result<List<Row>, Memory>
-    ensures { IfOk result (λ rows. rows ≡ map (row_of 0 0) (side_by_side lefts.now rights.now)) }
+pub(crate) fn applied(
+    alloc: Global,
+    lefts: &[&Row],
+    rights: &[&Row],
+) -> Result<List<Row>, Memory>
+    ensures { IfOk result (λ rows. rows ≡ map (row_of 0 0) (side_by_side (lent lefts.now) (lent rights.now))) }
 {
     let mut rows = List::new(alloc);
     for (left, right) in lefts.iter().zip(rights) {

@@ -1,7 +1,6 @@
 //! What a SELECT answers over the rows of its sources: joins, WHERE, ORDER BY and the list of items.
 #![tactic(auto)]
 
-mod conditions;
 mod joins;
 mod laws;
 mod lists;

@@ -2,13 +2,15 @@ ghost use Rattle.std.specs.Prelude.{◌≡◌, IfOk, map};
 ghost use Rattle.ct_types.specs.Answers.{Gives, each};
 ghost use Rattle.ct_query.specs.Answer as spec;
 ghost use Rattle.ct_query.specs.Joins.{only_source};
-ghost use Rattle.ct_query.specs.Steps.{lent};
+ghost use Rattle.ct_source.specs.Rows.{lent};
+ghost use Rattle.ct_source.specs.Sources.{source_rows};
 
-use crate::conditions::kept;
 use crate::joins::{applied, inner, left_outer, pair, right_outer};
 use crate::shown::Shown;
 use crate::sorting::sorted;
 use ct_expr::{Env, Versions, eval};
+use ct_scan::rows_where;
+use ct_source::Source;
 use ct_types::{
     BoundExpr, Copies, Grid, Join, List, Memory, OrderBy, Plan, Refusal, Row, Value, push,
 };
@@ -113,34 +115,47 @@ fn grid(alloc: Global, plan: &Plan, all: List<Shown>) -> Result<Grid, Memory>
     })
 }
 
-/// The answer over joined rows.
+/// The answer over joined rows, or over those of the only source.
 fn answer<L: Versions>(
     alloc: Global,
     plan: &Plan,
-    rows: &[Row],
+    rows: Source<'_>,
     env: &Env<'_>,
     versions: &L,
 ) -> Result<Grid, Refusal>
-    ensures { Gives (spec.answer_over (record { env = env.now; versions = L.row_of versions.now }) plan.now rows.now) result }
+    ensures { Gives (spec.answer_over (record { env = env.now; versions = L.row_of versions.now }) plan.now (source_rows rows.entry)) result }
 {
-    let rows = kept(alloc, &plan.filter, rows, env, versions)?;
-    let all = show_all(alloc, plan, rows.as_slice(), env, versions)?;
+    let kept = rows_where(alloc, &plan.filter, rows, env, versions)?;
+    let all = show_all(alloc, plan, kept.as_slice(), env, versions)?;
     Ok(grid(alloc, plan, all)?)
+}
+
+/// The answer over rows that were joined.
+fn joined_answer<L: Versions>(
+    alloc: Global,
+    plan: &Plan,
+    rows: List<Row>,
+    env: &Env<'_>,
+    versions: &L,
+) -> Result<Grid, Refusal>
+    ensures { Gives (spec.answer_over (record { env = env.now; versions = L.row_of versions.now }) plan.now rows) result }
+{
+    answer(alloc, plan, Source::Listed(rows.as_slice()), env, versions)
 }
 
 /// The answer over the rows of the only source, or over one row without values where there is none.
 fn one_source<L: Versions>(
     alloc: Global,
     plan: &Plan,
-    rows: &[Row],
+    rows: Source<'_>,
     env: &Env<'_>,
     versions: &L,
 ) -> Result<Grid, Refusal>
-    ensures { Gives (spec.answer_over (record { env = env.now; versions = L.row_of versions.now }) plan.now (only_source plan.now.left rows.now)) result }
+    ensures { Gives (spec.answer_over (record { env = env.now; versions = L.row_of versions.now }) plan.now (only_source plan.now.left (source_rows rows.entry))) result }
 {
     if plan.left == 0 {
         let row = Row(List::new(alloc));
-        answer(alloc, plan, &[row], env, versions)
+        answer(alloc, plan, Source::Listed(&[row]), env, versions)
     } else {
         answer(alloc, plan, rows, env, versions)
     }
@@ -149,7 +164,8 @@ fn one_source<L: Versions>(
 /// What a SELECT answers, over the rows of its sources.
 ///
 /// `left` are the rows of the left or only source, `right` those of the right one; of a CROSS APPLY, `right` has one
-/// row for each left row. A SELECT without FROM has a plan whose left source has no columns: its expressions are
+/// row for each left row. Where WHERE pins the key of the only source's table, or ON that of a table of a join for the rows
+/// of the other source, rows are looked up in it. A SELECT without FROM has a plan whose left source has no columns: its expressions are
 /// evaluated on one row without values, whatever `left` holds. A joined row is the left row's values followed by the
 /// right row's; a missing row stands with NULLs. ON, WHERE and the items are evaluated on it, and the parts of ORDER BY
 /// on its values followed by those of the items, where the value of the first item has the place after the last column.
@@ -162,30 +178,35 @@ fn one_source<L: Versions>(
 pub fn select<L: Versions>(
     alloc: Global,
     plan: &Plan,
-    left: &[Row],
-    right: &[Row],
+    left: Source<'_>,
+    right: Source<'_>,
     env: &Env<'_>,
     versions: &L,
 ) -> Result<Grid, Refusal>
-    ensures { Gives (spec.answer (record { env = env.now; versions = L.row_of versions.now }) plan.now left.now right.now) result }
+    ensures { Gives (spec.answer (record { env = env.now; versions = L.row_of versions.now }) plan.now (source_rows left.entry) (source_rows right.entry)) result }
 {
     match plan.join {
         Join::One => one_source(alloc, plan, left, env, versions),
         Join::Inner => {
-            let rows = inner(alloc, plan, left, right, env, versions)?;
-            answer(alloc, plan, rows.as_slice(), env, versions)
+            let lefts = left.all(alloc)?;
+            let rows = inner(alloc, plan, lefts.as_slice(), right, env, versions)?;
+            joined_answer(alloc, plan, rows, env, versions)
         }
         Join::Left => {
-            let rows = left_outer(alloc, plan, left, right, env, versions)?;
-            answer(alloc, plan, rows.as_slice(), env, versions)
+            let lefts = left.all(alloc)?;
+            let rows = left_outer(alloc, plan, lefts.as_slice(), right, env, versions)?;
+            joined_answer(alloc, plan, rows, env, versions)
         }
         Join::Right => {
-            let rows = right_outer(alloc, plan, left, right, env, versions)?;
-            answer(alloc, plan, rows.as_slice(), env, versions)
+            let rights = right.all(alloc)?;
+            let rows = right_outer(alloc, plan, left, rights.as_slice(), env, versions)?;
+            joined_answer(alloc, plan, rows, env, versions)
         }
         Join::Apply => {
-            let rows = applied(alloc, left, right)?;
-            answer(alloc, plan, rows.as_slice(), env, versions)
+            let lefts = left.all(alloc)?;
+            let rights = right.all(alloc)?;
+            let rows = applied(alloc, lefts.as_slice(), rights.as_slice())?;
+            joined_answer(alloc, plan, rows, env, versions)
         }
     }
 }

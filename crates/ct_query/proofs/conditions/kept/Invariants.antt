@@ -1,8 +1,0 @@
-use Rattle.std.proofs.Common.{◌≡◌, take, Ok}
-use Rattle.ct_expr.specs.Meaning.{holds}
-use Rattle.ct_expr.specs.Conditions.{only}
-use Rattle.ct_query.specs.Steps.{lent}
-use Rattle.ct_query.proofs.conditions.kept.Given as goal
-
-abbrev pub invariant-loop-row : goal.invariant-loop-row
-invariant-loop-row g l = only (holds (record { env = l.env; versions = g.L.Versions.row_of l.versions }) l.condition) (take l.row-index l.rows) ≡ Ok (lent l.found)
