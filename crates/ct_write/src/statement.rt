@@ -90,7 +90,7 @@ pub fn writes<L: Versions>(
     ensures fit { IfOk result (λ made. AllByRecursion (λ write. IsFit table.now.schema.columns write.row) made) }
     ensures keyed { IfOk result (λ made. AllByRecursion (λ write. IfSome write.row (IsRowOf table.now.schema write.key)) made) }
 {
-    table.is_keyed();
+    table.rows_rise();
     let context = context_of(alloc, &bound.context, env, versions)?;
     let changes = changes_of(alloc, table, &bound.change, env, versions)?;
     fit_all(alloc, table.schema().columns.as_slice(), changes.as_slice())?;
