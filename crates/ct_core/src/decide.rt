@@ -16,8 +16,8 @@ use ct_bind::bind;
 use ct_machine::{Decision, is_built};
 use ct_model::{Db, Table, find_table};
 use ct_types::{
-    Act, Bound, BoundSelect, BoundWrite, Catalogued, Command, Copies, Key, List, Memory, Refusal, Reply, Stmt,
-    Variables, Write,
+    Act, Bound, BoundSelect, BoundWrite, Catalogued, Command, Copies, Key, List, Memory, Refusal,
+    Reply, Stmt, Variables, Write,
 };
 use ct_write::{duplicate, writes};
 use std::alloc::Global;

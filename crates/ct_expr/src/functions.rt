@@ -85,9 +85,7 @@ pub(crate) fn object_id(alloc: Global, tables: &[Catalogued], name: &Value) -> R
 fn table_of(tables: &[Catalogued], id: i64) -> Option<&Catalogued>
     ensures { option_copied result ≡ spec.table_of tables.now id }
 {
-    tables
-        .iter()
-        .find(|table| i64::from(table.schema.id) == id)
+    tables.iter().find(|table| i64::from(table.schema.id) == id)
 }
 
 fn place_of(name: &str, columns: &[Column]) -> Option<usize>

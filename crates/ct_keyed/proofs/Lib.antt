@@ -1,0 +1,4 @@
+pub mod Steps
+pub mod Holding
+pub mod Filtering
+pub mod Loops
