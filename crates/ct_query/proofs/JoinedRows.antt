@@ -1,7 +1,6 @@
 -- The rows that the code joins are those of the definition.
 use Rattle.std.proofs.Common.{◌≡◌, Bool, List, [], ◌∷◌, ◌++◌, map, Ok, Err, refl, sym, ap, ◌∙◌, inl, inr, ◌⊎◌, append_assoc}
-use Rattle.ct_query.proofs.Members.{with_none}
-use Rattle.std.proofs.lemmas.List.{map-append}
+use Rattle.std.proofs.lemmas.List.{append-nil, map-append}
 use Rattle.ct_types.specs.declared.bound.Join.TheVariants.{One, Inner, Left, Right, Apply}
 use Rattle.ct_types.specs.declared.bound.Plan.{Plan}
 use Rattle.ct_types.specs.declared.refusal.Refusal.{Refusal}
@@ -12,7 +11,8 @@ use Rattle.ct_query.specs.Answer.{joined_rows, answer_over, answer}
 use Rattle.ct_query.specs.Joins.{Joined, alone, pair, left_only, right_only, row_of, only_source, with_right, with_left, or_else, side_by_side}
 use Rattle.ct_query.specs.Lists.{all_of}
 use Rattle.ct_query.specs.Steps.{row_in, pairs_of_left, pairs_of_right, rows_of_left, rows_of_right}
-use Rattle.ct_query.proofs.Through.{all_of-through, only-through, or_else-through}
+use Rattle.ct_scan.specs.Enough.{AreEnoughLefts, AreEnoughRights}
+use Rattle.ct_query.proofs.Through.{all_of-through, only-mapped, only-through, or_else-through}
 
 -- ON, on a joined row
 abbrev on_joined : World → Plan → Joined → Answer Bool
@@ -25,6 +25,19 @@ pairs_of_left-is world plan rights left = only-through (holds world plan.on) (ro
 pairs_of_right-is : (world : World) (plan : Plan) (lefts : List Row) (right : Row)
     → pairs_of_right world plan lefts right ≡ (with_left (on_joined world plan) lefts right >>= (λ a. Ok (map (row_in plan) a)))
 pairs_of_right-is world plan lefts right = only-through (holds world plan.on) (row_in plan) (λ left. pair left right) lefts
+
+-- the pairs among rows that are enough are all pairs
+pub rights_suffice : (world : World) (plan : Plan) (left : Row) (all some : List Row) → AreEnoughRights world.env plan.on left all some
+    → pairs_of_left world plan some left ≡ pairs_of_left world plan all left
+rights_suffice world plan left all some enough =
+    let join : Row → Row = λ right. row_in plan (pair left right) in
+    only-mapped (holds world plan.on) join some ∙ ap (λ (found : Answer (List Row)). found >>= (λ a. Ok (map join a))) (enough world refl) ∙ sym (only-mapped (holds world plan.on) join all)
+
+pub lefts_suffice : (world : World) (plan : Plan) (right : Row) (all some : List Row) → AreEnoughLefts world.env plan.on right all some
+    → pairs_of_right world plan some right ≡ pairs_of_right world plan all right
+lefts_suffice world plan right all some enough =
+    let join : Row → Row = λ left. row_in plan (pair left right) in
+    only-mapped (holds world plan.on) join some ∙ ap (λ (found : Answer (List Row)). found >>= (λ a. Ok (map join a))) (enough world refl) ∙ sym (only-mapped (holds world plan.on) join all)
 
 pub inner_rows : (world : World) (plan : Plan) (lefts rights : List Row) → plan.join ≡ Inner
     → all_of (pairs_of_left world plan rights) lefts ≡ joined_rows world plan lefts rights
@@ -67,9 +80,10 @@ none_beside [] = refl
 none_beside (left ∷ lefts) = refl
 
 -- one side has no more
-pub applied-all : (whole made lefts rights : List Row) → whole ≡ made ++ map (row_of 0 0) (side_by_side lefts rights) → (lefts ≡ []) ⊎ (rights ≡ []) → made ≡ whole
-applied-all whole made lefts rights before (inl none) = sym (before ∙ rw (none, with_none))
-applied-all whole made lefts rights before (inr none) = sym (before ∙ rw (none, none_beside, with_none))
+pub applied-all : {A B : Type 0} (f : A → Row) (g : B → Row) (whole made : List Row) (lefts : List A) (rights : List B)
+    → whole ≡ made ++ map (row_of 0 0) (side_by_side (map f lefts) (map g rights)) → (lefts ≡ []) ⊎ (rights ≡ []) → made ≡ whole
+applied-all f g whole made lefts rights before (inl none) = sym (before ∙ rw (none, append-nil))
+applied-all f g whole made lefts rights before (inr none) = sym (before ∙ rw (none, none_beside, append-nil))
 
 alone_rows : (plan : Plan) (rows : List Row) → rows ≡ map (row_in plan) (map alone rows)
 alone_rows plan [] = refl

@@ -1,5 +1,6 @@
 -- What is made of the members of a list may be made of the list of them.
-use Rattle.std.proofs.Common.{◌≡◌, Bool, true, false, cond, List, [], ◌∷◌, ◌++◌, map, Ok, Err, refl, sym, ap}
+use Rattle.std.proofs.Common.{◌≡◌, Bool, true, false, cond, List, [], ◌∷◌, ◌++◌, map, Ok, Err, refl, sym, ap, ◌∙◌}
+use Rattle.std.proofs.lemmas.Simd.{map-map}
 use Rattle.ct_types.specs.Answers.{Answer, ◌>>=◌}
 use Rattle.ct_expr.specs.Conditions.{only}
 use Rattle.ct_query.specs.Lists.{all_of}
@@ -29,10 +30,13 @@ only_at f x (Ok b) (Err r) n e = rw e
 only_at f x (Ok true) (Ok a) n e = rw e
 only_at f x (Ok false) (Ok a) n e = rw e
 
+pub only-mapped : {A B : Type 0} (test : B → Answer Bool) (f : A → B) (xs : List A) → only test (map f xs) ≡ (only (λ a. test (f a)) xs >>= (λ a. Ok (map f a)))
+only-mapped test f [] = refl
+only-mapped test f (x ∷ xs) = only_at f x (test (f x)) (only (λ a. test (f a)) xs) (only test (map f xs)) (only-mapped test f xs)
+
 pub only-through : {A B C : Type 0} (test : B → Answer Bool) (f : A → B) (g : C → A) (xs : List C)
     → only test (map (λ c. f (g c)) xs) ≡ (only (λ a. test (f a)) (map g xs) >>= (λ a. Ok (map f a)))
-only-through test f g [] = refl
-only-through test f g (x ∷ xs) = only_at f (g x) (test (f (g x))) (only (λ a. test (f a)) (map g xs)) (only test (map (λ c. f (g c)) xs)) (only-through test f g xs)
+only-through test f g xs = ap (only test) (sym (map-map f g xs)) ∙ only-mapped test f (map g xs)
 
 -- ---- or_else
 

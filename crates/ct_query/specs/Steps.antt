@@ -1,7 +1,5 @@
 -- The steps that the code takes. No promise speaks of them.
-use Rattle.std.specs.Prelude.{◌≡◌, ◌≢◌, List, map, Result, Ok, Err}
-use Rattle.ct_types.specs.declared.refusal.Refusal.{Refusal}
-use Rattle.ct_types.specs.declared.refusal.Refusal.TheVariants.{Memory}
+use Rattle.std.specs.Prelude.{List, map, Ok}
 use Rattle.ct_types.specs.declared.bound.Plan.{Plan}
 use Rattle.ct_types.specs.declared.value.Row.{Row}
 use Rattle.ct_types.specs.Answers.{Answer, ◌>>=◌}

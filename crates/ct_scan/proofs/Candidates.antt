@@ -13,7 +13,7 @@ use Rattle.ct_expr.specs.Environment.{Environment}
 use Rattle.ct_expr.specs.Meaning.{holds}
 use Rattle.ct_keyed.specs.Readings.{pinned}
 use Rattle.ct_keyed.specs.Seen.{Seen, nothing, Agrees}
-use Rattle.ct_keyed.proofs.PinnedRows.{pinned_over, pinned_rows}
+use Rattle.ct_keyed.proofs.Filtering.{pinned_over, pinned_rows}
 use Rattle.ct_scan.specs.Enough.{AreEnough, AreEnoughLefts, AreEnoughRights}
 
 -- the row of a pair

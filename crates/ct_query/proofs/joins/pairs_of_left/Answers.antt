@@ -1,18 +1,17 @@
-use Rattle.std.proofs.Common.{arith}
-use Rattle.std.proofs.lemmas.Result.{err_from_is_err_and}
-use Rattle.ct_query.proofs.Members.{only-takes, only-skips, only-fails}
+use Rattle.std.proofs.Common.{List, ap, ◌∙◌, subst}
+use denote.Ref.{Bor}
+use Rattle.ct_types.specs.declared.value.Row.{Row}
+use Rattle.ct_types.specs.Answers.{Answer, Gives}
+use Rattle.ct_expr.specs.Meaning.{World}
+use Rattle.ct_source.specs.Rows.{lent}
+use Rattle.ct_source.specs.Sources.{source_rows}
+use Rattle.ct_query.specs.Steps.{pairs_of_left}
+use Rattle.ct_query.proofs.JoinedRows.{rights_suffice}
 use Rattle.ct_query.proofs.joins.pairs_of_left.Goals as goal
-use Rattle.ct_query.proofs.joins.pairs_of_left.Goals.{then-branch+in_ok-push, else-branch}
 
-pub returns-in_err-holds : goal.returns-in_err-holds
-returns-in_err-holds g c =
-    let p = err_from_is_err_and c.from_residual-in_err-holds.result c.from_residual-in_err-holds.ensures.1 in
-    rw (p.1, p.2) (λ ne. only-fails _ _ c.args.rights.now c.loop-right.right-index c.right-item.result c.loop-right.found c.in_err-holds.field-0.0 (omega arith) c.right-item.is c.loop-right.invariant (let e = c.in_err-holds.ensures ne in let r = c.in_ok-row.ensures in cc))
-
-pub loop-right-preserved : goal.loop-right-preserved
-loop-right-preserved g c =
-    let rights = c.args.rights.now in let i = c.loop-right.right-index in let right = c.right-item.result in let found = c.loop-right.found in
-    elim c.if-branch.branch [
-      | then-branch+in_ok-push w ↦ only-takes _ _ rights i right found _ (omega arith) c.right-item.is c.loop-right.invariant (let e = c.in_ok-holds.ensures in let r = c.in_ok-row.ensures in let t = w.if-branch.true in cc) (let r = c.in_ok-row.ensures in let p = w.in_ok-push.ensures in let s = w.found-is in cc)
-      | else-branch w ↦ only-skips _ _ rights i right found _ (omega arith) c.right-item.is c.loop-right.invariant (let e = c.in_ok-holds.ensures in let r = c.in_ok-row.ensures in let t = w.if-branch.false in cc) w.found-is
-    ]
+pub returns : goal.returns
+returns g c =
+    let plan = c.args.plan.now in let left = c.args.left.now in
+    let world : World = record { env = c.args.env.now; versions = g.L.Versions.row_of c.args.versions.now } in
+    let P : Answer (List Row) → Type 0 = λ wanted. Gives wanted c.true_pairs_of_left.result in
+    subst P (ap (λ (rows : List (Bor Row)). pairs_of_left world plan (lent rows) left) c.as_slice.ensures ∙ rights_suffice world plan left (source_rows c.args.rights) (lent c.in_ok-partners.partners) c.in_ok-partners.ensures) c.true_pairs_of_left.ensures

@@ -1,18 +1,17 @@
-use Rattle.std.proofs.Common.{arith}
-use Rattle.std.proofs.lemmas.Result.{err_from_is_err_and}
-use Rattle.ct_query.proofs.Members.{only-takes, only-skips, only-fails}
+use Rattle.std.proofs.Common.{List, ap, ◌∙◌, subst}
+use denote.Ref.{Bor}
+use Rattle.ct_types.specs.declared.value.Row.{Row}
+use Rattle.ct_types.specs.Answers.{Answer, Gives}
+use Rattle.ct_expr.specs.Meaning.{World}
+use Rattle.ct_source.specs.Rows.{lent}
+use Rattle.ct_source.specs.Sources.{source_rows}
+use Rattle.ct_query.specs.Steps.{pairs_of_right}
+use Rattle.ct_query.proofs.JoinedRows.{lefts_suffice}
 use Rattle.ct_query.proofs.joins.pairs_of_right.Goals as goal
-use Rattle.ct_query.proofs.joins.pairs_of_right.Goals.{then-branch+in_ok-push, else-branch}
 
-pub returns-in_err-holds : goal.returns-in_err-holds
-returns-in_err-holds g c =
-    let p = err_from_is_err_and c.from_residual-in_err-holds.result c.from_residual-in_err-holds.ensures.1 in
-    rw (p.1, p.2) (λ ne. only-fails _ _ c.args.lefts.now c.loop-left.left-index c.left-item.result c.loop-left.found c.in_err-holds.field-0.0 (omega arith) c.left-item.is c.loop-left.invariant (let e = c.in_err-holds.ensures ne in let r = c.in_ok-row.ensures in cc))
-
-pub loop-left-preserved : goal.loop-left-preserved
-loop-left-preserved g c =
-    let lefts = c.args.lefts.now in let i = c.loop-left.left-index in let left = c.left-item.result in let found = c.loop-left.found in
-    elim c.if-branch.branch [
-      | then-branch+in_ok-push w ↦ only-takes _ _ lefts i left found _ (omega arith) c.left-item.is c.loop-left.invariant (let e = c.in_ok-holds.ensures in let r = c.in_ok-row.ensures in let t = w.if-branch.true in cc) (let r = c.in_ok-row.ensures in let p = w.in_ok-push.ensures in let s = w.found-is in cc)
-      | else-branch w ↦ only-skips _ _ lefts i left found _ (omega arith) c.left-item.is c.loop-left.invariant (let e = c.in_ok-holds.ensures in let r = c.in_ok-row.ensures in let t = w.if-branch.false in cc) w.found-is
-    ]
+pub returns : goal.returns
+returns g c =
+    let plan = c.args.plan.now in let right = c.args.right.now in
+    let world : World = record { env = c.args.env.now; versions = g.L.Versions.row_of c.args.versions.now } in
+    let P : Answer (List Row) → Type 0 = λ wanted. Gives wanted c.true_pairs_of_right.result in
+    subst P (ap (λ (rows : List (Bor Row)). pairs_of_right world plan (lent rows) right) c.as_slice.ensures ∙ lefts_suffice world plan right (source_rows c.args.lefts) (lent c.in_ok-partners.partners) c.in_ok-partners.ensures) c.true_pairs_of_right.ensures
