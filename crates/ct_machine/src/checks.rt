@@ -1,12 +1,9 @@
-ghost use Rattle.std.specs.Prelude.{◌≡◌, List as Tables, map};
+ghost use Rattle.std.specs.Prelude.{◌≡◌};
 ghost use Rattle.std.specs.List.{list_any};
-ghost use Rattle.std.specs.Option.{option_copied};
 ghost use Rattle.ct_model.specs.declared.db.Db.{Db};
-ghost use Rattle.ct_model.specs.declared.db.Table.{Table};
-ghost use Rattle.ct_model.specs.Tables.{catalogued, table_of};
 ghost use Rattle.ct_machine.specs.Play.{is_memory};
-ghost use Rattle.ct_machine.specs.Reads.{catalogue};
-ghost use Rattle.ct_machine.specs.Step.{is_tracked as is_tracked_table, act_draws, has_number as act_has_number};
+ghost use Rattle.ct_machine.specs.Reads.{catalogue, tracks};
+ghost use Rattle.ct_machine.specs.Step.{act_draws, has_number as act_has_number};
 
 use ct_types::{Act, Catalogued, Refusal, Reply, Write};
 
@@ -23,19 +20,25 @@ fn any_tracked(writes: &[Write]) -> bool
     writes.iter().any(|write| write.tracked)
 }
 
-/// Whether the table of an id is there and tracked.
-#[tactic(auto, using(crate::proofs::Draws::is_tracked_in))]
+/// Whether the catalogue has the table of an id, and tracks it.
 fn is_tracked(tables: &[Catalogued], id: u32) -> bool
-    ensures { (plain : Tables Table) → tables.now ≡ map catalogued plain → result ≡ is_tracked_table (table_of plain id) }
+    ensures { result ≡ tracks tables.now id }
 {
-    match tables.iter().find(|table| table.schema.id == id) {
-        Some(table) => table.tracked.is_some(),
-        None => false,
+    match tables {
+        [] => false,
+        [table, more @ ..] => {
+            if table.schema.id == id {
+                table.tracked.is_some()
+            } else {
+                is_tracked(more, id)
+            }
+        }
     }
 }
 
 /// Whether an entry with this act draws a version, in a database with this catalogue: a commit that changes a tracked row, as
 /// its writes say, an ENABLE, and the TRUNCATE of a tracked table. The rule is this project's own.
+#[tactic(auto, using(crate::proofs::Draws::tracks_so))]
 pub fn draws_version(tables: &[Catalogued], act: &Act) -> bool
     ensures { (db : Db) → tables.now ≡ catalogue db → result ≡ act_draws db act.now }
 {
