@@ -3,7 +3,7 @@ use Rattle.std.proofs.Common.{◌≡◌, ℕ, ◌+◌, ◌||◌, Bool, true, fal
 use Rattle.std.specs.List.{list_any}
 use Rattle.std.proofs.lemmas.Grind.{flat_map-append}
 use Rattle.std.proofs.lemmas.List.Folds.{list_any-append}
-use Rattle.std.proofs.lemmas.List.Sums.{sum_by_push}
+use Rattle.std.proofs.lemmas.List.Sums.{sum_by-cons, sum_by_push}
 use Rattle.ct_types.specs.declared.command.Journaled.{Journaled}
 use Rattle.ct_machine.specs.Play.{is_memory}
 use Rattle.ct_machine.specs.Transcript.{block_text, text_from, further_from, run_text}
@@ -41,7 +41,8 @@ journal_grows it (one ∷ journal) =
 run_push : (first : List Journaled) (journals : List (List Journaled)) (journal : List Journaled)
     → run_text ((first ∷ journals) ++ journal ∷ []) ≡ (run_text (first ∷ journals) ++ codes "#phase\n") ++ text_from (sum_by length (first ∷ journals) + 1) journal
 run_push first journals journal =
-    let place : (length first + 1) + sum_by length journals ≡ sum_by length (first ∷ journals) + 1 = omega arith in
+    let total = sum_by-cons length first journals in
+    let place : (length first + 1) + sum_by length journals ≡ sum_by length (first ∷ journals) + 1 = omega (arith, total) in
     let line = codes "#phase\n" in
     ap (λ text. text_from 1 first ++ text) (further_from-push (length first + 1) journals journal)
     ∙ ap (λ n. text_from 1 first ++ (further_from (length first + 1) journals ++ (line ++ text_from n journal))) place

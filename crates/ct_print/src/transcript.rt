@@ -22,15 +22,12 @@ pub struct Transcript {
 }
 
 impl Model for Transcript {
-    ghost use Rattle.std.specs.Prelude.{◌+◌, ◌≤◌, length, string_bytes};
+    ghost use Rattle.std.specs.Prelude.{string_bytes};
     ghost use Rattle.ct_print.specs.Growing.{Growing};
 
     ghost Value = { Growing };
 
     ghost view = { λ it. record { text = string_bytes it.text; begun = it.begun; next = it.next; wanted = it.wanted } };
-
-    // a block has a byte at least
-    ghost invariant = { λ it. it.next ≤ length (string_bytes it.text) + 1 };
 }
 
 impl Transcript {
@@ -60,12 +57,15 @@ impl Transcript {
         Ok(())
     }
 
-    /// Adds the block of an entry. Only memory may be wanting.
+    /// Adds the block of an entry. Only memory may be wanting; 2^64 blocks are more than any memory holds.
     pub fn block(&mut self, entry: &Journaled) -> Result<(), Memory>
         ensures { OnOk result (self.new ≡ with_block self.old entry.now) }
     {
+        let Some(next) = self.next.checked_add(1) else {
+            return Err(Memory);
+        };
         add_block(&mut self.text, self.next, entry)?;
-        self.next += 1;
+        self.next = next;
         self.wanted = self.wanted || wants_memory(&entry.reply);
         Ok(())
     }
