@@ -1,18 +1,19 @@
-ghost use Rattle.std.specs.Prelude.{◌≡◌};
+ghost use Rattle.std.specs.Prelude.{◌≡◌, IfSome, Some, Ok, not};
 ghost use Rattle.ct_expr.specs.Meaning as spec;
 ghost use Rattle.ct_expr.specs.Meaning.{scene};
+ghost use Rattle.ct_expr.specs.Numbers.{compare as compare_values, is_null as is_null_value};
 ghost use Rattle.ct_types.specs.Answers.{Gives};
 
 use crate::functions::{
     column_property, counted_or_null, if_null, is_column_in_mask, min_valid_version, object_id,
-    value_at, variable_at, version_column, with,
+    value_at, value_in, variable_at, variable_in, version_column, with,
 };
 use crate::logic::{and3, not3, or3};
 use crate::numbers::{compare, is_null, minus, negative, plus, times};
 use crate::{Env, Versions};
 use ct_types::{
-    BoundExpr, BoundRowVersion, BoundScalar, BoundTerm, Copies, Key, List, Refusal, Row, Value,
-    VersionRow,
+    BoundExpr, BoundRowVersion, BoundScalar, BoundTerm, Comparison, Copies, Key, List, Refusal,
+    Row, Value, VersionRow,
 };
 use std::alloc::Global;
 
@@ -212,17 +213,66 @@ impl<L: Versions> Scene<'_, L> {
         Ok(version_column(self.alloc, scalar.column, &key, row)?)
     }
 
+    /// Lends the value of an expression that stands somewhere: of a column, or of a variable.
+    fn lent<'a>(&'a self, expr: &BoundExpr) -> Option<&'a Value>
+        ensures { IfSome result (λ value. spec.value (scene self.now.row.now self.now.env.now (L.row_of self.now.versions.now)) expr.now ≡ Ok value.now) }
+    {
+        let env = self.env;
+        match expr {
+            BoundExpr::Column(at) => value_in(self.row.0.as_slice(), *at),
+            BoundExpr::Variable(at) => variable_in(env.variables.0.as_slice(), *at),
+            _ => None,
+        }
+    }
+
+    /// The truth of a comparison. Values that stand somewhere are compared there, and not copied.
+    fn compared(
+        &self,
+        operator: Comparison,
+        a: &BoundExpr,
+        b: &BoundExpr,
+    ) -> Result<Option<bool>, Refusal>
+        ensures { let s = scene self.now.row.now self.now.env.now (L.row_of self.now.versions.now) in Gives (spec.of_two (compare_values operator) (spec.meaning s a.now) (spec.meaning s b.now)) result }
+    {
+        match (self.lent(a), self.lent(b)) {
+            (Some(a), Some(b)) => Ok(compare(operator, a, b)),
+            (Some(a), None) => Ok(compare(operator, a, &self.value(b)?)),
+            (None, Some(b)) => Ok(compare(operator, &self.value(a)?, b)),
+            (None, None) => {
+                let a = self.value(a)?;
+                Ok(compare(operator, &a, &self.value(b)?))
+            }
+        }
+    }
+
+    /// IS NULL
+    fn is_null(&self, expr: &BoundExpr) -> Result<Option<bool>, Refusal>
+        ensures { let s = scene self.now.row.now self.now.env.now (L.row_of self.now.versions.now) in Gives (spec.of_one (λ x. Some (is_null_value x)) (spec.meaning s expr.now)) result }
+    {
+        match self.lent(expr) {
+            Some(value) => Ok(Some(is_null(value))),
+            None => Ok(Some(is_null(&self.value(expr)?))),
+        }
+    }
+
+    /// IS NOT NULL
+    fn is_not_null(&self, expr: &BoundExpr) -> Result<Option<bool>, Refusal>
+        ensures { let s = scene self.now.row.now self.now.env.now (L.row_of self.now.versions.now) in Gives (spec.of_one (λ x. Some (not (is_null_value x))) (spec.meaning s expr.now)) result }
+    {
+        match self.lent(expr) {
+            Some(value) => Ok(Some(!is_null(value))),
+            None => Ok(Some(!is_null(&self.value(expr)?))),
+        }
+    }
+
     #[cycle(truths)]
     fn truth(&self, expr: &BoundExpr) -> Result<Option<bool>, Refusal>
         ensures { Gives (spec.truth (scene self.now.row.now self.now.env.now (L.row_of self.now.versions.now)) expr.now) result }
     {
         match expr {
-            BoundExpr::Compare(operator, a, b) => {
-                let a = self.value(a.get())?;
-                Ok(compare(*operator, &a, &self.value(b.get())?))
-            }
-            BoundExpr::IsNull(a) => Ok(Some(is_null(&self.value(a.get())?))),
-            BoundExpr::IsNotNull(a) => Ok(Some(!is_null(&self.value(a.get())?))),
+            BoundExpr::Compare(operator, a, b) => self.compared(*operator, a.get(), b.get()),
+            BoundExpr::IsNull(a) => self.is_null(a.get()),
+            BoundExpr::IsNotNull(a) => self.is_not_null(a.get()),
             BoundExpr::Not(a) => Ok(not3(self.truth(a.get())?)),
             BoundExpr::And(operands) => self.all(operands.as_slice()),
             BoundExpr::Or(operands) => self.any(operands.as_slice()),

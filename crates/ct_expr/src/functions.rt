@@ -13,13 +13,30 @@ use ct_types::{
 };
 use std::alloc::Global;
 
+/// Lends the value at a place, if there is one.
+pub(crate) fn value_in(values: &[Value], at: u32) -> Option<&Value>
+    ensures { option_copied result ≡ slice_get values.now at }
+{
+    values.get(at as usize)
+}
+
 /// The value in a place, or NULL where there is none.
 pub(crate) fn value_at(alloc: Global, values: &[Value], at: u32) -> Result<Value, Memory>
     ensures { IfOk result (λ value. value ≡ spec.or_null (slice_get values.now at)) }
 {
-    match values.get(at as usize) {
+    match value_in(values, at) {
         Some(value) => value.copy(alloc),
         None => Ok(Value::Null),
+    }
+}
+
+/// Lends the value of the variable at a place, if there is one.
+pub(crate) fn variable_in(variables: &[Variable], at: u32) -> Option<&Value>
+    ensures { option_copied result ≡ option_map (λ variable. variable.value) (slice_get variables.now at) }
+{
+    match variables.get(at as usize) {
+        Some(variable) => Some(&variable.value),
+        None => None,
     }
 }
 
@@ -27,8 +44,8 @@ pub(crate) fn value_at(alloc: Global, values: &[Value], at: u32) -> Result<Value
 pub fn variable_at(alloc: Global, variables: &[Variable], at: u32) -> Result<Value, Memory>
     ensures { IfOk result (λ value. value ≡ spec.or_null (option_map (λ variable. variable.value) (slice_get variables.now at))) }
 {
-    match variables.get(at as usize) {
-        Some(variable) => variable.value.copy(alloc),
+    match variable_in(variables, at) {
+        Some(value) => value.copy(alloc),
         None => Ok(Value::Null),
     }
 }
