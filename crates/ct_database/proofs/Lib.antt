@@ -1,0 +1,5 @@
+pub mod Listing
+pub mod Numbered
+pub mod Placed
+pub mod Trimmed
+pub mod Versions

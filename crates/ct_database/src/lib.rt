@@ -2,6 +2,7 @@
 #![tactic(auto)]
 
 mod acts;
+mod changing;
 mod commits;
 mod database;
 mod fresh;
