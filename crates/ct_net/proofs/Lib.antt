@@ -1,0 +1,7 @@
+pub mod Floors
+pub mod Gathered
+pub mod Entries
+pub mod Keyed
+pub mod Later
+pub mod Picked
+pub mod Shown
