@@ -6,6 +6,7 @@ mod changing;
 mod commits;
 mod database;
 mod fresh;
+mod net;
 mod tables;
 mod trims;
 mod writes;
