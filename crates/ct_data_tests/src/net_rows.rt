@@ -1,5 +1,7 @@
 use ct_net::{net_of_kept, net_rows};
-use ct_types::{Bin, Change, ColType, Column, Kept, Key, List, Memory, NetRow, Op, Schema, Text, Value};
+use ct_types::{
+    Bin, Change, ColType, Column, Kept, Key, List, Memory, NetRow, Op, Schema, Text, Value,
+};
 use std::alloc::Global;
 use std::test::Fail;
 
@@ -24,7 +26,14 @@ fn schema(alloc: Global) -> Result<Schema, Memory> {
 }
 
 /// A change of a key, with its version as its context.
-fn change(alloc: Global, table: u32, version: u8, id: i64, op: Op, mask: u64) -> Result<Change, Memory> {
+fn change(
+    alloc: Global,
+    table: u32,
+    version: u8,
+    id: i64,
+    op: Op,
+    mask: u64,
+) -> Result<Change, Memory> {
     let mut values = List::new(alloc);
     values.push(Value::Int(id))?;
     Ok(Change {
@@ -88,7 +97,14 @@ fn show(row: &NetRow) -> Shown {
     }
 }
 
-const fn told(id: i64, version: u64, creation: Option<u64>, op: Op, mask: Option<u64>, context: u8) -> Shown {
+const fn told(
+    id: i64,
+    version: u64,
+    creation: Option<u64>,
+    op: Op,
+    mask: Option<u64>,
+    context: u8,
+) -> Shown {
     Shown {
         id,
         version,

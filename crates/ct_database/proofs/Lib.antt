@@ -1,0 +1,6 @@
+pub mod LaterChanges
+pub mod Listing
+pub mod Numbered
+pub mod Placed
+pub mod Trimmed
+pub mod Versions

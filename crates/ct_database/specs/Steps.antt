@@ -40,3 +40,7 @@ pub record IsTrimmed (db : Db) : Type 0 where
 -- the commit of an entry that draws
 abbrev pub added_by : Entry → List Kept
 added_by entry = if entry.draws then kept_of entry ∷ [] else []
+
+-- what is added is above all that is kept
+abbrev pub AreNewest : List Kept → List Kept → Type 0
+AreNewest kept = AllByRecursion (λ one. AllByRecursion (λ old. old.version < one.version) kept)

@@ -1,8 +1,7 @@
-ghost use Rattle.std.specs.Prelude.{◌≡◌, ◌++◌, ◌∷◌, [], OnOk, OnErr, ◌<◌, length, take, drop, filter};
+ghost use Rattle.std.specs.Prelude.{◌≡◌, ◌≤◌, ◌++◌, [], OnOk, OnErr, length, take, drop, filter};
 ghost use Rattle.std.specs.Option.{option_to_list};
-ghost use Rattle.std.specs.List.{AllByRecursion};
 ghost use Rattle.ct_model.specs.Apply.{trim as trimmed};
-ghost use Rattle.ct_database.specs.Steps.{AreWithin, AreBehind, DoRise, is_later};
+ghost use Rattle.ct_database.specs.Steps.{AreWithin, AreBehind, AreNewest, DoRise, is_later};
 
 use crate::trims::trim_all;
 use ct_source::Stored;
@@ -32,6 +31,7 @@ impl Model for Commits {
 /// How many commits stand up to a version.
 fn count_to(items: &[Kept], version: u64) -> usize
     requires { DoRise items.now }
+    ensures within { result ≤ length items.now }
     ensures low { AreWithin version (take result items.now) }
     ensures high { AreBehind version (drop result items.now) }
 {
@@ -77,13 +77,14 @@ impl Commits {
     pub(crate) fn since(&self, version: u64) -> &[Kept]
         ensures { result.now ≡ filter (is_later version) self.now }
     {
-        let at = count_to(self.items.as_slice(), version);
-        &self.items[at..]
+        let items = self.items.as_slice();
+        let at = count_to(items, version);
+        &items[at..]
     }
 
     /// Adds a commit above all others, or none. Want of memory leaves the commits as they were.
     pub(crate) fn push(&mut self, one: Option<Kept>) -> Result<(), Memory>
-        requires { AllByRecursion (λ added. AllByRecursion (λ old. old.version < added.version) self.old) (option_to_list one) }
+        requires { AreNewest self.old (option_to_list one) }
         ensures ok { OnOk result (self.new ≡ self.old ++ option_to_list one) }
         ensures err { OnErr result (self.new ≡ self.old) }
     {

@@ -1,14 +1,17 @@
-ghost use Rattle.std.specs.Prelude.{◌≡◌, ◌++◌, OnOk, OnErr, map};
+ghost use Rattle.std.specs.Prelude.{◌≡◌, IfOk, OnOk, OnErr, map};
 ghost use Rattle.std.specs.Option.{option_copied};
-ghost use Rattle.ct_model.specs.Apply.{apply as applied, no_db, keep_after, tables_after, trim};
+ghost use Rattle.ct_model.specs.Apply.{apply as applied, no_db};
+ghost use Rattle.ct_model.specs.Net.{net as net_changes};
 ghost use Rattle.ct_model.specs.Tables.{catalogued, table_of};
-ghost use Rattle.ct_database.specs.Storable.{IsStorable, IsActStorable};
-ghost use Rattle.ct_database.specs.Steps.{added_by};
+ghost use Rattle.ct_database.specs.Storable.{IsStorable};
 
+use crate::changing::{act_on, keep_of};
 use crate::commits::Commits;
+use crate::fresh::commit_of;
+use crate::net::net_since;
 use crate::tables::Tables;
 use ct_source::Stored;
-use ct_types::{Act, Catalogued, Entry, Keep, Memory};
+use ct_types::{Catalogued, Entry, Keep, List, Memory, NetRow};
 use std::alloc::Global;
 use std::marker::Model;
 
@@ -77,5 +80,56 @@ impl Database {
         ensures { option_copied result ≡ table_of self.now.tables id }
     {
         self.tables.table(id)
+    }
+
+    /// The net changes of a table above a version: one row for each key that changed, in key order. None names the table's
+    /// minimum, and so does a version below it. A table that is not tracked, or is none, has no net changes.
+    ///
+    /// It costs the changes of the commits above the version, and not all that is kept.
+    #[tactic(auto, unfolding(ct_model::specs::Net::net))]
+    pub fn net(
+        &self,
+        alloc: Global,
+        table: u32,
+        since: Option<i64>,
+    ) -> Result<List<NetRow>, Memory>
+        ensures { IfOk result (λ made. made ≡ net_changes self.now table since) }
+    {
+        net_since(alloc, self.tables.table(table), &self.kept, since)
+    }
+
+    /// Makes of the database what one committed entry makes of it, in place, at the cost of what the entry touches. An act that
+    /// changes how tables are tracked costs what is kept as well.
+    ///
+    /// Want of memory leaves the database as it was.
+    #[tactic(auto, unfolding(ct_model::specs::Apply::apply))]
+    pub fn apply(&mut self, entry: Entry) -> Result<(), Memory>
+        requires { IsStorable self.old entry }
+        ensures ok { OnOk result (self.new ≡ applied self.old entry) }
+        ensures err { OnErr result (self.new ≡ self.old) }
+    {
+        let fresh = commit_of(self.alloc, &entry)?;
+        let keep = keep_of(&entry.act, self.keep);
+        let Entry {
+            version,
+            draws,
+            xdes,
+            time,
+            act,
+        } = entry;
+        act_on(
+            self.alloc,
+            &mut self.tables,
+            &mut self.kept,
+            fresh,
+            act,
+            version,
+            draws,
+        )?;
+        self.version = version;
+        self.time = time;
+        self.last_xdes = self.last_xdes.max(xdes);
+        self.keep = keep;
+        Ok(())
     }
 }

@@ -2,9 +2,11 @@
 #![tactic(auto)]
 
 mod acts;
+mod changing;
 mod commits;
 mod database;
 mod fresh;
+mod net;
 mod tables;
 mod trims;
 mod writes;

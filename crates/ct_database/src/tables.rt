@@ -84,9 +84,10 @@ impl Tables {
     pub(crate) fn table(&self, id: u32) -> Option<&Stored>
         ensures { option_copied result ≡ table_of self.now id }
     {
-        match writes::place(id, self.tables.len()) {
+        let tables = self.tables.as_slice();
+        match writes::place(id, tables.len()) {
             None => None,
-            Some(at) => Some(&self.tables[at]),
+            Some(at) => Some(&tables[at]),
         }
     }
 

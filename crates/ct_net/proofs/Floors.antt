@@ -1,5 +1,5 @@
 -- Where the changes above a version begin.
-use Rattle.std.proofs.Common.{◌≡◌, ℕ, ◌≤◌, nat_lt, false, List, [], ◌∷◌, ◌++◌, arith, tests}
+use Rattle.std.proofs.Common.{◌≡◌, ℕ, ◌≤◌, nat_lt, false, [], ◌∷◌, refl, arith, tests}
 use Rattle.ct_model.specs.Net.{dated_in}
 use Rattle.ct_types.specs.declared.entry.Kept.{Kept}
 use Rattle.ct_net.specs.Laws.{ChangesFromFloor}

@@ -12,7 +12,7 @@ use Rattle.ct_ptree.specs.declared.pair.Pair.{Pair}
 use Rattle.ct_ptree.specs.Pairs.{value_at}
 use Rattle.ct_net.specs.Standings.{Standing, standing, standings}
 use Rattle.ct_net.specs.Steps.{standing_after, with_change}
-use Rattle.ct_net.proofs.Entries.{is_that, entry, entries_filter, entry_value}
+use Rattle.ct_net.proofs.Entries.{entry, entries_filter, entry_value}
 use Rattle.ct_net.proofs.Keyed.{has_that, keys_have, keys_behind, window_none, window_own, window_below, window_above}
 use Rattle.ct_net.proofs.Later.{standing_behind}
 

@@ -9,7 +9,7 @@ use Rattle.ct_types.specs.declared.schema.Schema.{Schema}
 use Rattle.ct_types.specs.declared.entry.Op.TheVariants.{Update}
 use Rattle.ct_model.specs.declared.db.Dated.{Dated}
 use Rattle.ct_model.specs.Net.{last_of, is_insert, inserts_of, is_whole, union_of, mask_of}
-use Rattle.ct_net.specs.Standings.{Standing, creation_of, standing}
+use Rattle.ct_net.specs.Standings.{creation_of, standing}
 use Rattle.ct_net.specs.Steps.{creation_after, columns_before, columns_after, standing_after}
 
 last_behind : (changes : List Dated) (dated : Dated) → last_of (changes ++ dated ∷ []) ≡ Some dated

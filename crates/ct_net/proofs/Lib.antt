@@ -3,4 +3,5 @@ pub mod Gathered
 pub mod Entries
 pub mod Keyed
 pub mod Later
+pub mod Picked
 pub mod Shown

@@ -1,6 +1,6 @@
 -- What a key's changes come to shows its net row.
-use Rattle.std.proofs.Common.{◌≡◌, ℕ, Bool, true, false, ◌||◌, cond, is_some, List, [], ◌∷◌, map, filter, fold, Option, None, Some, option_map, refl, sym, ap, ap₂, ◌∙◌}
-use Rattle.std.specs.List.{filter_map, cons_option, list_any}
+use Rattle.std.proofs.Common.{◌≡◌, ℕ, Bool, true, false, ◌||◌, cond, is_some, List, [], ◌∷◌, map, fold, Option, None, Some, option_map, refl, ap, ap₂, ◌∙◌}
+use Rattle.std.specs.List.{filter_map, cons_option}
 use Rattle.ct_types.specs.declared.schema.Schema.{Schema}
 use Rattle.ct_types.specs.declared.value.Key.{Key}
 use Rattle.ct_types.specs.declared.tracked.NetRow.{NetRow}
@@ -9,7 +9,7 @@ use Rattle.ct_types.specs.declared.entry.Op.TheVariants.{Insert, Update, Delete}
 use Rattle.ct_model.specs.declared.db.Dated.{Dated}
 use Rattle.ct_model.specs.Net.{window, keys_of, last_of, is_insert, inserts_of, has_insert, op_after, mask_of, row_of, net_rows}
 use Rattle.ct_ptree.specs.declared.pair.Pair.{Pair}
-use Rattle.ct_net.specs.Standings.{Standing, creation_of, standing, standings, told_by, shown}
+use Rattle.ct_net.specs.Standings.{Standing, creation_of, standing, told_by, shown}
 use Rattle.ct_net.specs.Steps.{with_change}
 use Rattle.ct_net.proofs.Gathered.{gathered}
 use Rattle.ct_net.proofs.Later.{last_some}

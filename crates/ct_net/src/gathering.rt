@@ -1,4 +1,4 @@
-ghost use Rattle.std.specs.Prelude.{◌≡◌, [], fold, map, IfOk, OnOk};
+ghost use Rattle.std.specs.Prelude.{◌≡◌, ◌==◌, [], fold, map, filter, if◌then◌else◌, IfOk, OnOk};
 ghost use Rattle.ct_model.specs.Net.{dated_in};
 ghost use Rattle.ct_net.specs.Standings.{shown};
 ghost use Rattle.ct_net.specs.Steps.{with_change};
@@ -39,18 +39,36 @@ impl<'a> Gathering<'a> {
         self.states.put(change.key.copy(self.alloc)?, state)
     }
 
+    /// One more change, where it is of this table.
+    fn add_own(&mut self, version: u64, change: &'a Change) -> Result<(), Memory>
+        ensures { OnOk result (self.new ≡ record self.old { states = if change.now.table == self.old.schema.now.id then with_change self.old.schema.now self.old.masks self.old.states (record { version = version; change = change.now }) else self.old.states }) }
+    {
+        if change.table == self.schema.id {
+            self.add(version, change)
+        } else {
+            Ok(())
+        }
+    }
+
+    /// Those of the changes of a commit that are of this table.
+    fn add_all(&mut self, version: u64, changes: &'a [Change]) -> Result<(), Memory>
+        ensures { OnOk result (self.new ≡ record self.old { states = fold (with_change self.old.schema.now self.old.masks) self.old.states (map (λ change. record { version = version; change = change }) (filter (λ change. change.table == self.old.schema.now.id) changes.now)) }) }
+    {
+        for change in changes {
+            self.add_own(version, change)?;
+        }
+        Ok(())
+    }
+
     /// The changes of a commit, where that is above a version.
     pub(crate) fn add_commit(&mut self, floor: u64, kept: &'a Kept) -> Result<(), Memory>
         ensures { OnOk result (self.new ≡ record self.old { states = fold (with_change self.old.schema.now self.old.masks) self.old.states (dated_in self.old.schema.now.id floor kept.now) }) }
     {
         if floor < kept.version {
-            for change in kept.changes.as_slice() {
-                if change.table == self.schema.id {
-                    self.add(kept.version, change)?;
-                }
-            }
+            self.add_all(kept.version, kept.changes.as_slice())
+        } else {
+            Ok(())
         }
-        Ok(())
     }
 
     /// The net row of each key, in key order.

@@ -9,11 +9,11 @@ use std::alloc::Global;
 /// The net rows of changes in their order, one for each key, in key order: with the columns of updates or without.
 ///
 /// It takes a number of steps of n log n for n changes, and copies the context of a change only where it is shown.
-pub fn net_rows<'a>(
+pub fn net_rows(
     alloc: Global,
-    schema: &'a Schema,
+    schema: &Schema,
     masks: bool,
-    changes: &'a [Dated],
+    changes: &[Dated],
 ) -> Result<List<NetRow>, Memory>
     ensures { IfOk result (λ made. made ≡ rows_of_changes schema.now masks changes.now) }
 {
@@ -29,12 +29,12 @@ pub fn net_rows<'a>(
 ///
 /// It takes a number of steps of n log n for n changes, and copies the context of a change only where it is shown. Commits
 /// at or below the version may be left out ([`crate::changes_from_floor`]).
-pub fn net_of_kept<'a>(
+pub fn net_of_kept(
     alloc: Global,
-    schema: &'a Schema,
+    schema: &Schema,
     masks: bool,
     floor: u64,
-    kept: &'a [Kept],
+    kept: &[Kept],
 ) -> Result<List<NetRow>, Memory>
     ensures { IfOk result (λ made. made ≡ rows_of_changes schema.now masks (changes_above schema.now.id floor kept.now)) }
 {
