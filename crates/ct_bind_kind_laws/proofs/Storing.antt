@@ -1,5 +1,5 @@
 -- What binding promises to whatever stores what statements write.
-use Rattle.std.proofs.Common.{◌≡◌, ◌≢◌, ◌≤◌, ℕ, ◌+◌, ◌==◌, not, Bool, true, false, ◌&&◌, nat_le, nat_lt, nat_eq, List, [], ◌∷◌, map, find, length, Option, Some, None, IfSome, is_some, refl, sym, ap, subst, ◌∙◌, arith}
+use Rattle.std.proofs.Common.{◌≡◌, ◌≢◌, ◌≤◌, ℕ, zero, suc, ◌+◌, ◌==◌, not, Bool, true, false, ◌&&◌, nat_le, nat_lt, nat_eq, List, [], ◌∷◌, map, find, length, Option, Some, None, IfSome, Ok, is_some, if◌then◌else◌, refl, sym, ap, subst, ◌∙◌, arith}
 use Rattle.std.specs.List.{AllByRecursion, IsDistinct, list_all}
 use Rattle.ct_types.specs.declared.bound.Bound.{Bound}
 use Rattle.ct_types.specs.declared.bound.Bound.TheVariants.{AcceptOption, AlterDatabase, CreateTable, EnableTracking, DisableTracking, TruncateTable, Write, Select, Begin, Commit, Rollback, SetIsolation, SetLockTimeout, SetVariable, Declare}
@@ -29,6 +29,7 @@ use Rattle.ct_types.specs.declared.stmt.WriteStmt.TheVariants as write
 use Rattle.ct_types.specs.Answers.{Answer, ◌>>=◌, demand, each, each_after, or_refuse, optional}
 use Rattle.ct_types.proofs.AnswersKept.{Kept, ok_kept, err_kept, then_kept, after_kept, found_kept, each_after_kept}
 use Rattle.ct_types.proofs.AnswersTaken.{there}
+use Rattle.ct_bind_kinds.specs.declared.kind.Kind.{Kind}
 use Rattle.ct_bind_kinds.specs.Kinds.{kind_of_type}
 use Rattle.ct_bind_names.specs.Names.{same, table_name, last_part}
 use Rattle.ct_bind_names.specs.Numbers.{column_type}
@@ -43,7 +44,7 @@ use Rattle.ct_bind.specs.Sources.{condition}
 use Rattle.ct_bind.specs.Writes.{set_target, insert_targets, updated_name, row_named, context_of, tuple_of, insert_change, set_of, update_change, delete_change, write_to, insert, update, delete, write_of}
 use Rattle.ct_bind_kind_laws.specs.Statements.{catalogued_of}
 use Rattle.ct_bind_kind_laws.specs.Storing.{SparesKey, HasOwnKey, StoresWell, BoundStoreWell}
-use Rattle.ct_bind_kind_laws.proofs.Targets.{MaySet, set_target_kept}
+use Rattle.ct_bind_kind_laws.proofs.Targets.{HasKind, MaySet, set_target_kept}
 use Rattle.ct_bind_kind_laws.proofs.Versions.{stands}
 
 -- ---- the next table
@@ -93,7 +94,12 @@ schema_next id name columns key =
 -- ---- keys that are spared
 
 abbrev Spares : Schema → BoundSet → Type 0
-Spares table set = AllByRecursion (λ key. key ≢ set.column) table.key
+Spares table set = (1 ≤ set.column) × AllByRecursion (λ key. key ≢ set.column) table.key
+
+-- a column that has a kind is one of the table, so its id is not 0
+from_one : (table : Schema) (id : ℕ) (kind : Kind) → HasKind table id kind → 1 ≤ id
+from_one table zero kind has = absurd cc
+from_one table (suc id) kind has = omega arith
 
 module _ (tables : List Catalogued) (variables : List Variable) where
   set_spares : (table : Schema) (place : Place) (before : List SetColumn) (it : SetColumn) → Kept (Spares table) (set_of tables variables table place before it)
@@ -101,7 +107,7 @@ module _ (tables : List Catalogued) (variables : List Variable) where
   set_spares table place before it =
       then_kept (λ column. MaySet table column.column column.kind) (Spares table) (set_target table before it.column) _ (set_target_kept table before it.column)
       (λ column may. after_kept (Spares table) (walk tables variables it.value place >>= of_kind column.kind) _
-      (λ value. ok_kept (Spares table) (record { column = column.column; value = value }) may.1))
+      (λ value. ok_kept (Spares table) (record { column = column.column; value = value }) (from_one table column.column column.kind may.0, may.1)))
 
   update_spares : (table : Schema) (place : Place) (sets : List SetColumn) (filter : Option Expr) → Kept (SparesKey table) (update_change tables variables table place sets filter)
   unfolding update_change

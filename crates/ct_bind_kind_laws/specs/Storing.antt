@@ -14,10 +14,10 @@ use Rattle.ct_types.specs.declared.stmt.Stmt.{Stmt}
 use Rattle.ct_bind.specs.Binding.{binding}
 use Rattle.ct_bind_kind_laws.specs.Statements.{catalogued_of}
 
--- no column that is set is one of the key
+-- the columns that are set have ids from 1 on, and none is one of the key
 abbrev pub SparesKey : Schema → RowChange → Type 0
 SparesKey table (Insert columns tuples) = Unit {0}
-SparesKey table (Update sets filter) = AllByRecursion (λ set. AllByRecursion (λ key. key ≢ set.column) table.key) sets
+SparesKey table (Update sets filter) = AllByRecursion (λ set. (1 ≤ set.column) × AllByRecursion (λ key. key ≢ set.column) table.key) sets
 SparesKey table (Delete filter) = Unit {0}
 
 -- the columns of the key are columns of the table, whose ids count from 1

@@ -3,8 +3,8 @@ ghost use Rattle.ct_machine.specs.Machine.{Machine, db_of};
 ghost use Rattle.ct_machine.specs.Step.{entry_of, has_room as has_room_for};
 
 use crate::decide::decide_command;
+use ct_database::Database;
 use ct_machine::{Decision, draws_version, has_number};
-use ct_model::{Db, apply};
 use ct_types::{Act, Command, Entry, Memory, Refusal, Reply};
 use std::alloc::Global;
 use std::marker::Model;
@@ -14,10 +14,10 @@ const MOST_NUMBER: u64 = 1 << 62;
 
 /// The newest database, with what the next statement needs, and the disk, which nothing touches yet. Contracts see all
 /// four. The version is at most 2^62, the next number at most one more, and each table has at most 64 columns.
-#[derive(Debug, Drop)]
+#[derive(Drop)]
 pub struct Core<D> {
     disk: D,
-    db: Db,
+    db: Database,
     /// In seconds.
     now: u64,
     next: u64,
@@ -58,13 +58,13 @@ fn number_after(next: u64, numbered: bool) -> u64
 }
 
 /// The entry of an act, in a core with this database, time and next number.
-fn entry(db: &Db, now: u64, next: u64, act: Act) -> Entry
+fn entry(db: &Database, now: u64, next: u64, act: Act) -> Entry
     requires { db.now.version < 2 ^ 63 }
     ensures { (m : Machine) → db.now ≡ db_of m → now ≡ m.now → next ≡ m.next → result ≡ entry_of m act }
 {
-    let draws = draws_version(db, &act);
+    let draws = draws_version(db.catalogue().as_slice(), &act);
     Entry {
-        version: version_after(db.version, draws),
+        version: version_after(db.version(), draws),
         draws,
         xdes: number_of(next, has_number(&act)),
         time: now,
@@ -86,7 +86,7 @@ impl<D> Core<D> {
     ghost use Rattle.ct_machine.specs.Play.{Follows, after, is_memory};
     ghost use Rattle.ct_machine.specs.Step.{step};
     ghost use Rattle.ct_machine.specs.Fits.{RowsFit};
-    ghost use Rattle.ct_core.specs.Range.{ActIsNarrow};
+    ghost use Rattle.ct_core.specs.Range.{ActIsKept};
     ghost use Rattle.ct_core.specs.Stands.{IsSettled, Stands};
 
     /// The core of an opening without anything on the disk: the empty database at time 0. The first transaction has number
@@ -96,7 +96,7 @@ impl<D> Core<D> {
         ensures disk { IfOk result (λ core. core.disk ≡ disk) }
         ensures back { IfErr result (λ back. back.0 ≡ disk) }
     {
-        match Db::empty(alloc) {
+        match Database::empty(alloc) {
             Err(Memory) => Err((disk, Memory)),
             Ok(db) => Ok(Core {
                 disk,
@@ -115,8 +115,8 @@ impl<D> Core<D> {
     }
 
     /// Commits an act, where a version and a transaction's number are left for it.
-    fn commit(&mut self, alloc: Global, act: Act, reply: Reply) -> Result<Reply, Memory>
-        requires { ActIsNarrow act }
+    fn commit(&mut self, act: Act, reply: Reply) -> Result<Reply, Memory>
+        requires { ActIsKept self.old.db act }
         ensures ok { IfOk result (λ shown. (m : Machine) → Stands self.old m → IsSettled m (Decision.Commits act reply) shown self.new) }
         ensures disk { self.new.disk ≡ self.old.disk }
         ensures err { OnErr result (self.new ≡ self.old) }
@@ -127,7 +127,7 @@ impl<D> Core<D> {
             let limit = MOST_NUMBER;
             return Ok(Reply::Refused(Refusal::Exhausted { limit }));
         }
-        apply(alloc, &mut self.db, &entry)?;
+        self.db.apply(entry)?;
         self.next = number_after(self.next, numbered);
         Ok(reply)
     }
@@ -141,7 +141,7 @@ impl<D> Core<D> {
         match decide_command(alloc, &self.db, what)? {
             Decision::Refuses(refusal) => Ok(Reply::Refused(refusal)),
             Decision::Answers(reply) => Ok(reply),
-            Decision::Commits(act, reply) => self.commit(alloc, act, reply),
+            Decision::Commits(act, reply) => self.commit(act, reply),
         }
     }
 

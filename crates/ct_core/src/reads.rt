@@ -1,19 +1,20 @@
 ghost use Rattle.std.specs.Prelude.{◌≡◌, [], map, IfOk};
-ghost use Rattle.std.specs.Option.{option_copied};
 ghost use Rattle.ct_types.specs.Answers.{Gives};
 ghost use Rattle.ct_machine.specs.Reads as spec;
 ghost use Rattle.ct_model.specs.Net.{net as net_changes};
-ghost use Rattle.ct_model.specs.Tables.{catalogued as catalogued_table, table_of};
+ghost use Rattle.ct_model.specs.Tables.{table_of};
+ghost use Rattle.ct_source.specs.Sources.{source_rows};
 ghost use Rattle.ct_model.specs.Versions.{current as current_version};
 ghost use Rattle.ct_core.specs.Rows as steps;
 
 use crate::changes::show_changes;
+use ct_database::Database;
 use ct_expr::{Env, Versions, eval};
-use ct_model::{Db, Table, find_table, net};
 use ct_query::select;
+use ct_source::Source;
 use ct_types::{
-    BoundExpr, BoundSelect, BoundSource, Catalogued, Copies, Grid, Key, List, Memory, Refusal, Row,
-    Value, Variables, VersionRow,
+    BoundExpr, BoundSelect, BoundSource, Grid, Key, List, Memory, Refusal, Row, Value, Variables,
+    VersionRow,
 };
 use std::alloc::Global;
 
@@ -33,46 +34,24 @@ impl Versions for NoVersions {
     }
 }
 
-/// A table without its rows.
-pub(crate) fn catalogued(alloc: Global, table: &Table) -> Result<Catalogued, Memory>
-    ensures { IfOk result (λ made. made ≡ catalogued_table table.now) }
-{
-    Ok(Catalogued {
-        schema: table.schema.copy(alloc)?,
-        tracked: table.tracked,
-    })
-}
-
-/// The tables, as names find them.
-pub(crate) fn catalogue(alloc: Global, db: &Db) -> Result<List<Catalogued>, Memory>
-    ensures { IfOk result (λ made. made ≡ spec.catalogue db.now) }
-{
-    let mut made = List::new(alloc);
-    for table in db.tables.as_slice() {
-        made.push(catalogued(alloc, table)?)?;
-    }
-    Ok(made)
-}
-
-fn current(db: &Db) -> Option<u64>
+fn current(db: &Database) -> Option<u64>
     ensures { result ≡ current_version db.now }
 {
-    match db.keep {
+    match db.keep() {
         None => None,
-        Some(_) => Some(db.version),
+        Some(_) => Some(db.version()),
     }
 }
 
-/// What expressions may ask for beside their row, where there are no variables.
-pub(crate) fn env<'a>(db: &Db, variables: &'a Variables, tables: &'a [Catalogued]) -> Env<'a>
-    requires none { variables.now ≡ record { 0 = [] } }
-    requires tables { tables.now ≡ spec.catalogue db.now }
+/// What expressions may ask for beside their row, where there are no variables. It is lent, and nothing is copied.
+pub(crate) fn env<'a>(db: &'a Database, variables: &'a Variables) -> Env<'a>
+    requires { variables.now ≡ record { 0 = [] } }
     ensures { result ≡ spec.env_of db.now }
 {
     Env {
         variables,
         current: current(db),
-        tables,
+        tables: db.catalogue().as_slice(),
     }
 }
 
@@ -87,16 +66,16 @@ fn since(value: &Value) -> Option<i64>
 }
 
 /// The rows that CHANGETABLE(CHANGES ..) shows of a table since the version that a value gives.
-fn changes_since(alloc: Global, db: &Db, table: u32, last: &Value) -> Result<List<Row>, Memory>
+fn changes_since(alloc: Global, db: &Database, table: u32, last: &Value) -> Result<List<Row>, Memory>
     ensures { IfOk result (λ made. made ≡ map spec.shown (net_changes db.now table (spec.since_of last.now))) }
 {
-    let changes = net(alloc, db, table, since(last))?;
+    let changes = db.net(alloc, table, since(last))?;
     show_changes(alloc, changes.as_slice())
 }
 
 fn changes_rows(
     alloc: Global,
-    db: &Db,
+    db: &Database,
     env: &Env<'_>,
     table: u32,
     last: &BoundExpr,
@@ -112,7 +91,7 @@ fn changes_rows(
 /// The rows that are made for a source; those of a table are lent.
 fn made_rows(
     alloc: Global,
-    db: &Db,
+    db: &Database,
     env: &Env<'_>,
     source: &Option<BoundSource>,
 ) -> Result<List<Row>, Refusal>
@@ -126,38 +105,33 @@ fn made_rows(
     }
 }
 
-fn table_rows(db: &Db, table: u32) -> &[Row]
-    ensures { result.now ≡ spec.rows_of (table_of db.now.tables table) }
+/// The rows of a table; one that is not there has none.
+fn table_rows(db: &Database, table: u32) -> Source<'_>
+    ensures { source_rows result ≡ spec.rows_of (table_of db.now.tables table) }
 {
-    match find_table(db.tables.as_slice(), table) {
-        None => &[],
-        Some(table) => table.rows.as_slice(),
+    match db.table(table) {
+        None => Source::Listed(&[]),
+        Some(table) => Source::Stored(table),
     }
 }
 
 /// The rows of a source, of which some were made.
-fn chosen_rows<'a>(db: &'a Db, source: &Option<BoundSource>, made: &'a [Row]) -> &'a [Row]
-    ensures { result.now ≡ steps.chosen_rows db.now source.now made.now }
+fn chosen_rows<'a>(db: &'a Database, source: &Option<BoundSource>, made: &'a [Row]) -> Source<'a>
+    ensures { source_rows result ≡ steps.chosen_rows db.now source.now made.now }
 {
     match source {
         Some(BoundSource::Table(table)) => table_rows(db, *table),
-        _ => made,
+        _ => Source::Listed(made),
     }
 }
 
 /// What a SELECT answers.
 #[tactic(auto, using(crate::proofs::Rows::optional_made))]
-pub(crate) fn selected(
-    alloc: Global,
-    db: &Db,
-    tables: &[Catalogued],
-    query: &BoundSelect,
-) -> Result<Grid, Refusal>
-    requires { tables.now ≡ spec.catalogue db.now }
+pub(crate) fn selected(alloc: Global, db: &Database, query: &BoundSelect) -> Result<Grid, Refusal>
     ensures { Gives (spec.selected db.now query.now) result }
 {
     let variables = Variables(List::new(alloc));
-    let env = env(db, &variables, tables);
+    let env = env(db, &variables);
     let left = made_rows(alloc, db, &env, &query.left)?;
     let right = made_rows(alloc, db, &env, &query.right)?;
     let left = chosen_rows(db, &query.left, left.as_slice());

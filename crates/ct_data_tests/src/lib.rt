@@ -4,6 +4,8 @@
 #[cfg(test)]
 mod database;
 #[cfg(test)]
+mod net_rows;
+#[cfg(test)]
 mod row_versions;
 #[cfg(test)]
 mod trees;

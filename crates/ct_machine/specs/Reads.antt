@@ -1,7 +1,7 @@
 -- What a statement reads of a database: the catalogue in which names are bound, what the functions of expressions may ask for,
 -- and the rows of the sources of a SELECT. The columns of CHANGETABLE(CHANGES ..) are those of
 -- https://learn.microsoft.com/sql/relational-databases/system-functions/changetable-transact-sql.
-use Rattle.std.specs.Prelude.{ℕ, ℤ, codes, List, [], ◌∷◌, map, Option, None, Some, Ok, Err}
+use Rattle.std.specs.Prelude.{ℕ, ℤ, ◌==◌, codes, Bool, false, List, [], ◌∷◌, map, Option, None, Some, is_some, Ok, Err, if◌then◌else◌}
 use Rattle.std.specs.Option.{option_map}
 use Rattle.ct_types.specs.declared.bound.BoundExpr.{BoundExpr}
 use Rattle.ct_types.specs.declared.bound.BoundSelect.{BoundSelect}
@@ -35,6 +35,11 @@ use Rattle.ct_query.specs.Answer.{answer}
 -- the tables, as names find them
 abbrev pub catalogue : Db → List Catalogued
 catalogue db = map catalogued db.tables
+
+-- whether a catalogue has the table of an id, and tracks it
+abbrev pub tracks : List Catalogued → ℕ → Bool
+tracks [] id = false
+tracks (table ∷ tables) id = if table.schema.id == id then is_some table.tracked else tracks tables id
 
 -- ---- expressions
 

@@ -1,15 +1,11 @@
 -- Steps for the members of a list that is joined of two.
-use Rattle.std.proofs.Common.{◌≡◌, ℕ, ◌+◌, ◌<◌, List, [], ◌∷◌, ◌++◌, length, take, drop, get_or, Bool, true, false, if◌then◌else◌, Option, Ok, Err, refl, sym, ap, ◌∙◌}
-use Rattle.std.proofs.lemmas.List.{append-nil, take-append-drop, drop_more, take_more}
+use Rattle.std.proofs.Common.{◌≡◌, ℕ, ◌+◌, ◌<◌, List, [], ◌∷◌, ◌++◌, length, map, take, drop, get_or, Ok, Err, refl, sym, ap, ◌∙◌}
+use Rattle.std.proofs.lemmas.List.{map-append, take-append-drop, drop_more, take_more}
 use Rattle.std.specs.List.{AllByRecursion}
-use Rattle.ct_types.specs.declared.bound.BoundExpr.{BoundExpr}
-use Rattle.ct_types.specs.declared.value.Row.{Row}
 use Rattle.ct_types.specs.declared.refusal.Refusal.{Refusal}
 use Rattle.ct_types.proofs.Lists.{all_append}
 use Rattle.ct_types.specs.Answers.{Answer, ◌>>=◌, Gives, each}
 use Rattle.ct_write.specs.Steps.{in_turn}
-use Rattle.ct_expr.specs.Meaning.{World, holds}
-use Rattle.ct_write.specs.Rows.{targets}
 
 -- a list up to a member, the member, and the rest
 split_at : {A : Type 0} (xs : List A) (i : ℕ) (x : A) → i < length xs → x ≡ get_or xs i x → take i xs ++ x ∷ drop (i + 1) xs ≡ xs
@@ -46,6 +42,19 @@ pub each_stops : {A B : Type 0} (f : A → Answer B) (xs : List A) (i : ℕ) (x 
 each_stops f xs i x ys e lt is front here other =
     let stops : each f (take i xs ++ x ∷ drop (i + 1) xs) ≡ Err e = rw (each_append f (take i xs) (x ∷ drop (i + 1) xs)) (rw (front, here other) refl) in
     ap (each f) (sym (split_at xs i x lt is)) ∙ stops
+
+-- the same of members that are made of those of another list
+pub each_of_more : {A B C : Type 0} (f : B → Answer C) (g : A → B) (xs : List A) (i : ℕ) (x : A) (ys : List C) (y : C)
+    → i < length xs → x ≡ get_or xs i x → each f (map g (take i xs)) ≡ Ok ys → f (g x) ≡ Ok y → each f (map g (take (i + 1) xs)) ≡ Ok (ys ++ y ∷ [])
+each_of_more f g xs i x ys y lt is front here =
+    rw (front_more xs i x lt is) (rw (map-append g (take i xs) (x ∷ [])) (rw (each_append f (map g (take i xs)) (g x ∷ [])) (rw (front, here) refl)))
+
+pub each_of_stops : {A B C : Type 0} (f : B → Answer C) (g : A → B) (xs : List A) (i : ℕ) (x : A) (ys : List C) (e : Refusal)
+    → i < length xs → x ≡ get_or xs i x → each f (map g (take i xs)) ≡ Ok ys → Gives (f (g x)) (Err e) → Gives (each f (map g xs)) (Err e)
+each_of_stops f g xs i x ys e lt is front here other =
+    let stops : each f (map g (take i xs ++ x ∷ drop (i + 1) xs)) ≡ Err e =
+    rw (map-append g (take i xs) (x ∷ drop (i + 1) xs)) (rw (each_append f (map g (take i xs)) (g x ∷ map g (drop (i + 1) xs))) (rw (front, here other) refl)) in
+    ap (λ all. each f (map g all)) (sym (split_at xs i x lt is)) ∙ stops
 
 -- ---- whether each member passes
 

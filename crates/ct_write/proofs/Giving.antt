@@ -1,12 +1,15 @@
 -- What a statement comes to by what its steps came to.
-use Rattle.std.proofs.Common.{◌≡◌, ℕ, List, [], map, Some, Ok, Err, refl, sym, ap, ◌∙◌, subst}
+use Rattle.std.proofs.Common.{◌≡◌, ◌≢◌, ℕ, List, [], map, Option, Some, Result, Ok, Err, refl, sym, ap, ◌∙◌, subst}
 use Rattle.std.specs.List.{AllByRecursion}
 use Rattle.ct_types.specs.declared.bound.BoundExpr.{BoundExpr}
+use Rattle.ct_types.specs.declared.bound.BoundSet.{BoundSet}
 use Rattle.ct_types.specs.declared.bound.BoundWrite.{BoundWrite}
 use Rattle.ct_types.specs.declared.bound.RowChange.{RowChange}
+use Rattle.ct_types.specs.declared.bound.RowChange.TheVariants.{Update}
 use Rattle.ct_types.specs.declared.catalogue.Catalogued.{Catalogued}
 use Rattle.ct_types.specs.declared.entry.Write.{Write}
 use Rattle.ct_types.specs.declared.refusal.Refusal.{Refusal}
+use Rattle.ct_types.specs.declared.refusal.Refusal.TheVariants.{Memory}
 use Rattle.ct_types.specs.declared.schema.Column.{Column}
 use Rattle.ct_types.specs.declared.schema.Schema.{Schema}
 use Rattle.ct_types.specs.declared.value.Key.{Key}
@@ -14,11 +17,12 @@ use Rattle.ct_types.specs.declared.value.Row.{Row}
 use Rattle.ct_types.specs.declared.value.Value.{Value}
 use Rattle.ct_model.specs.Tables.{key_of}
 use Rattle.ct_model.proofs.Members.{all_map}
-use Rattle.ct_expr.specs.Meaning.{World, on, value}
-use Rattle.ct_types.specs.Answers.{Gives, each}
+use Rattle.ct_expr.specs.Conditions.{only}
+use Rattle.ct_expr.specs.Meaning.{World, on, value, holds}
+use Rattle.ct_types.specs.Answers.{Gives, ◌>>=◌, each}
 use Rattle.ct_write.specs.declared.changes.Changed.{Changed}
 use Rattle.ct_write.specs.Fitting.{fit_row, IsFit}
-use Rattle.ct_write.specs.Rows.{assigned, nulls, inserted, changes_of}
+use Rattle.ct_write.specs.Rows.{assigned, nulls, inserted, updated, changes_of}
 use Rattle.ct_write.specs.Steps.{in_turn}
 use Rattle.ct_write.specs.Writes.{Context, context_of, write_of, fitted, writes_of}
 
@@ -51,3 +55,20 @@ writes_fit table change context changes slice columns made is are fit made_are =
     let here : AllByRecursion (λ changed. IsFit table.schema.columns changed.row) changes =
     subst (λ (cs : List Column). AllByRecursion (λ changed. IsFit cs changed.row) changes) is (subst (AllByRecursion (λ changed. IsFit columns changed.row)) are fit) in
     subst (AllByRecursion (λ write. IsFit table.schema.columns write.row)) (sym made_are) (all_map _ _ (write_of table change context) (λ x fits. fits) changes here)
+
+-- ---- the rows that an UPDATE changes
+
+-- the rows on which WHERE is true were refused
+pub update_refused : (w : World) (schema : Schema) (change : RowChange) (sets : List BoundSet) (filter : Option BoundExpr) (rows : List Row) (refusal : Refusal) → change ≡ Update sets filter
+    → (refusal ≢ Memory → only (holds w filter) rows ≡ Err refusal) → Gives (changes_of w schema change rows) (Err refusal)
+update_refused w schema change sets filter rows refusal is told = rw is (λ other. ap (λ chosen. chosen >>= each (updated w schema sets)) (told other))
+
+-- or they were found
+pub update_made : (w : World) (schema of : Schema) (change : RowChange) (sets listed : List BoundSet) (filter : Option BoundExpr) (rows all lent : List Row) (result : Result (List Changed) Refusal)
+    → change ≡ Update sets filter → only (holds w filter) rows ≡ Ok all → of ≡ schema → listed ≡ sets → lent ≡ all → Gives (each (updated w of listed) lent) result
+    → Gives (changes_of w schema change rows) result
+update_made w schema of change sets listed filter rows all lent result is found schema_is sets_are rows_are gives =
+    let here : Gives (each (updated w schema sets) all) result =
+    subst (λ rows. Gives (each (updated w schema sets) rows) result) rows_are
+    (subst (λ (sets : List BoundSet). Gives (each (updated w schema sets) lent) result) sets_are (subst (λ (schema : Schema). Gives (each (updated w schema listed) lent) result) schema_is gives)) in
+    rw (is, found) here

@@ -2,6 +2,7 @@ pub mod Accepting
 pub mod Each
 pub mod Fits
 pub mod Giving
+pub mod Keyed
 pub mod Keys
 pub mod Loops
 pub mod Bits

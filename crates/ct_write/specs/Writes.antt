@@ -1,6 +1,6 @@
 -- The writes of a statement. The context is evaluated and fitted first; then all rows are evaluated; then all are
 -- fitted. That order is this project's own.
-use Rattle.std.specs.Prelude.{◌≢◌, ℕ, Bool, ◌-◌, ◌^◌, nat_le, codes, bit_or, List, [], ◌∷◌, length, map, Option, Some, None, is_some, Ok, Err, if◌then◌else◌}
+use Rattle.std.specs.Prelude.{◌≢◌, ◌≤◌, ℕ, Bool, ◌-◌, ◌^◌, nat_le, codes, bit_or, List, [], ◌∷◌, length, map, Option, Some, None, is_some, Ok, Err, if◌then◌else◌}
 use Rattle.std.specs.List.{All, AllByRecursion}
 use Rattle.ct_types.specs.declared.bound.BoundExpr.{BoundExpr}
 use Rattle.ct_types.specs.declared.bound.BoundWrite.{BoundWrite}
@@ -57,9 +57,9 @@ NamesIds (Update sets filter) = All IsId (set_columns sets)
 NamesIds (Insert columns tuples) = Unit {0}
 NamesIds (Delete filter) = Unit {0}
 
--- no column of a SET list is one of the key
+-- the columns of a SET list have ids from 1 on, and none is one of the key
 abbrev pub SparesKey : Schema → RowChange → Type 0
-SparesKey schema (Update sets filter) = AllByRecursion (λ id. AllByRecursion (λ key. key ≢ id) schema.key) (set_columns sets)
+SparesKey schema (Update sets filter) = AllByRecursion (λ id. (1 ≤ id) × AllByRecursion (λ key. key ≢ id) schema.key) (set_columns sets)
 SparesKey schema (Insert columns tuples) = Unit {0}
 SparesKey schema (Delete filter) = Unit {0}
 

@@ -2,6 +2,7 @@ ghost use Rattle.std.specs.Prelude.{◌≡◌, map, IfOk, IfSome};
 ghost use Rattle.std.specs.List.{AllByRecursion};
 ghost use Rattle.ct_types.specs.Answers.{Gives};
 ghost use Rattle.ct_model.specs.Tables.{catalogued};
+ghost use Rattle.ct_source.specs.Rows.{IsRowOf};
 ghost use Rattle.ct_write.specs.Fitting.{IsFit};
 ghost use Rattle.ct_write.specs.Writes as spec;
 
@@ -89,7 +90,7 @@ pub fn writes<L: Versions>(
     ensures fit { IfOk result (λ made. AllByRecursion (λ write. IsFit table.now.schema.columns write.row) made) }
     ensures keyed { IfOk result (λ made. AllByRecursion (λ write. IfSome write.row (IsRowOf table.now.schema write.key)) made) }
 {
-    table.is_keyed();
+    table.rows_rise();
     let context = context_of(alloc, &bound.context, env, versions)?;
     let changes = changes_of(alloc, table, &bound.change, env, versions)?;
     fit_all(alloc, table.schema().columns.as_slice(), changes.as_slice())?;

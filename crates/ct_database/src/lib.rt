@@ -1,0 +1,12 @@
+//! The database in memory: an entry changes it in place, at the cost of what it touches.
+#![tactic(auto)]
+
+mod acts;
+mod commits;
+mod database;
+mod fresh;
+mod tables;
+mod trims;
+mod writes;
+
+pub use database::Database;

@@ -1,0 +1,3 @@
+pub mod Laws
+pub mod Standings
+pub mod Steps
