@@ -226,11 +226,7 @@ pub(crate) fn right_outer<L: Versions>(
 }
 
 /// Each left row with the right row at its place.
-pub(crate) fn applied(
-    alloc: Global,
-    lefts: &[&Row],
-    rights: &[&Row],
-) -> Result<List<Row>, Memory>
+pub(crate) fn applied(alloc: Global, lefts: &[&Row], rights: &[&Row]) -> Result<List<Row>, Memory>
     ensures { IfOk result (λ rows. rows ≡ map (row_of 0 0) (side_by_side (lent lefts.now) (lent rights.now))) }
 {
     let mut rows = List::new(alloc);

@@ -164,13 +164,15 @@ fn one_source<L: Versions>(
 /// What a SELECT answers, over the rows of its sources.
 ///
 /// `left` are the rows of the left or only source, `right` those of the right one; of a CROSS APPLY, `right` has one
-/// row for each left row. Where WHERE pins the key of the only source's table, or ON that of a table of a join for the rows
-/// of the other source, rows are looked up in it. A SELECT without FROM has a plan whose left source has no columns: its expressions are
+/// row for each left row. A SELECT without FROM has a plan whose left source has no columns: its expressions are
 /// evaluated on one row without values, whatever `left` holds. A joined row is the left row's values followed by the
 /// right row's; a missing row stands with NULLs. ON, WHERE and the items are evaluated on it, and the parts of ORDER BY
 /// on its values followed by those of the items, where the value of the first item has the place after the last column.
 /// Without ORDER BY the rows stand by left row and then right row, of a RIGHT JOIN by right row and then left row; rows
 /// that tie under ORDER BY keep this order.
+///
+/// Where WHERE pins the key of the only source's table, its row is looked up; so are the right rows that ON pins for a
+/// left row, and in a RIGHT JOIN the left rows that it pins for a right row. Else all rows of the source are tested.
 ///
 /// `Overflow`: a sum, difference, product or sign does not fit 64 bits in ON on a pair, in WHERE on a joined row, or in
 /// an item or an expression of ORDER BY on a kept row. `Memory` is the only other error.

@@ -1,5 +1,5 @@
-//! The rows of a source on which a condition is true: all are tested, or those alone that have the value to which the
-//! condition pins a key.
+//! The rows of a source on which a condition is true, and those that can make a pair with a row of a join: all are tested, or
+//! those alone that have the value to which the condition pins a key.
 #![tactic(auto)]
 
 mod conditions;

@@ -1,5 +1,6 @@
 use ct_expr::{Env, Versions};
 use ct_query::select;
+use ct_source::Source;
 use ct_types::{
     BoundExpr, BoundTerm, Comparison, Grid, Join, Key, List, Memory, OrderBy, Plan, Refusal, Row,
     Value, Variables, VersionRow,
@@ -150,8 +151,8 @@ fn answer(alloc: Global, plan: &Plan) -> Result<Grid, Refusal> {
     select(
         alloc,
         plan,
-        left.as_slice(),
-        right.as_slice(),
+        Source::Listed(left.as_slice()),
+        Source::Listed(right.as_slice()),
         &env,
         &Unchanged,
     )
