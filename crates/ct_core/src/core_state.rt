@@ -62,7 +62,7 @@ fn entry(db: &Database, now: u64, next: u64, act: Act) -> Entry
     requires { db.now.version < 2 ^ 63 }
     ensures { (m : Machine) → db.now ≡ db_of m → now ≡ m.now → next ≡ m.next → result ≡ entry_of m act }
 {
-    let draws = draws_version(db.catalogue().as_slice(), &act);
+    let draws = draws_version(db.catalogue(), &act);
     Entry {
         version: version_after(db.version(), draws),
         draws,
@@ -96,15 +96,12 @@ impl<D> Core<D> {
         ensures disk { IfOk result (λ core. core.disk ≡ disk) }
         ensures back { IfErr result (λ back. back.0 ≡ disk) }
     {
-        match Database::empty(alloc) {
-            Err(Memory) => Err((disk, Memory)),
-            Ok(db) => Ok(Core {
-                disk,
-                db,
-                now: 0,
-                next: 1,
-            }),
-        }
+        Ok(Core {
+            disk,
+            db: Database::empty(alloc),
+            now: 0,
+            next: 1,
+        })
     }
 
     /// The disk, which is as it was handed in.

@@ -12,7 +12,7 @@ ghost use Rattle.ct_machine.specs.Decide as spec;
 ghost use Rattle.ct_machine.specs.Reads.{catalogue as catalogue_of, selected as selected_in, world_of};
 ghost use Rattle.ct_machine.specs.Fits.{AnswerFits, FitsOn, RowsFit, WriteFits};
 ghost use Rattle.ct_source.specs.Rows.{IsRowOf};
-ghost use Rattle.ct_core.specs.Range.{AreKeyed, IsNarrow, DecisionIsKept};
+ghost use Rattle.ct_core.specs.Range.{AreStorable, DecisionIsKept, HasTables};
 
 use crate::reads::{NoVersions, env, selected};
 use ct_bind::bind;
@@ -49,7 +49,7 @@ fn key_at(alloc: Global, writes: &[Write], place: usize) -> Result<Key, Memory>
 /// The commit of writes of a table; a statement that writes no row commits nothing.
 fn counted(writes: List<Write>) -> Decision
     ensures is { result ≡ spec.counted writes }
-    ensures kept { (db : Db) → AreKeyed db writes → DecisionIsKept db result }
+    ensures kept { (db : Db) → AreStorable db writes → DecisionIsKept db result }
 {
     let count = writes.as_slice().len() as u64;
     if count == 0 {
@@ -65,7 +65,7 @@ fn without_duplicates(
     writes: List<Write>,
 ) -> Result<Decision, Memory>
     ensures is { IfOk result (λ made. made ≡ spec.fitted table.now (Ok writes)) }
-    ensures kept { (db : Db) → AreKeyed db writes → IfOk result (DecisionIsKept db) }
+    ensures kept { (db : Db) → AreStorable db writes → IfOk result (DecisionIsKept db) }
 {
     match duplicate(writes.as_slice(), table) {
         None => Ok(counted(writes)),
@@ -189,18 +189,17 @@ fn decide_bound(alloc: Global, db: &Database, statement: Bound) -> Result<Decisi
 
 /// What a sentence means among the tables, without variables.
 fn bound(alloc: Global, db: &Database, statement: &Stmt) -> Result<Bound, Refusal>
-    requires { IsNarrow db.now }
+    requires { HasTables db.now }
     ensures value { Gives (binding (catalogue_of db.now) db.now.keep [] statement.now) result }
     ensures limits { IfOk result KeepsLimits }
     ensures stores { IfOk result (StoresWell (catalogue_of db.now)) }
 {
-    db.is_stored();
     let names = Variables(List::new(alloc));
     bind(alloc, statement, db.catalogue(), db.keep(), &names)
 }
 
 fn decide_sentence(alloc: Global, db: &Database, statement: &Stmt) -> Result<Decision, Memory>
-    requires { IsNarrow db.now }
+    requires { HasTables db.now }
     ensures is { IfOk result (λ made. made ≡ spec.once_bound db.now (binding (catalogue_of db.now) db.now.keep [] statement.now)) }
     ensures kept { IfOk result (DecisionIsKept db.now) }
     ensures fits { OnOk result (AnswerFits db.now (binding (catalogue_of db.now) db.now.keep [] statement.now)) }
@@ -215,7 +214,7 @@ fn decide_sentence(alloc: Global, db: &Database, statement: &Stmt) -> Result<Dec
 /// What a statement comes to in a database whose tables have at most 64 columns each.
 #[tactic(auto, unfolding(ct_machine::specs::Decide::decide))]
 pub(crate) fn decide_command(alloc: Global, db: &Database, what: &Command) -> Result<Decision, Memory>
-    requires { IsNarrow db.now }
+    requires { HasTables db.now }
     ensures is { IfOk result (λ made. made ≡ spec.decide db.now what.now) }
     ensures kept { IfOk result (DecisionIsKept db.now) }
     ensures fits { OnOk result (RowsFit db.now what.now) }

@@ -51,7 +51,7 @@ pub(crate) fn env<'a>(db: &'a Database, variables: &'a Variables) -> Env<'a>
     Env {
         variables,
         current: current(db),
-        tables: db.catalogue().as_slice(),
+        tables: db.catalogue(),
     }
 }
 
