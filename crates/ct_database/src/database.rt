@@ -87,12 +87,7 @@ impl Database {
     ///
     /// It costs the changes of the commits above the version, and not all that is kept.
     #[tactic(auto, unfolding(ct_model::specs::Net::net))]
-    pub fn net(
-        &self,
-        alloc: Global,
-        table: u32,
-        since: Option<i64>,
-    ) -> Result<List<NetRow>, Memory>
+    pub fn net(&self, alloc: Global, table: u32, since: Option<i64>) -> Result<List<NetRow>, Memory>
         ensures { IfOk result (λ made. made ≡ net_changes self.now table since) }
     {
         net_since(alloc, self.tables.table(table), &self.kept, since)

@@ -5,8 +5,7 @@ ghost use Rattle.ct_model.specs.Apply.{written, tracked_as, truncated, raised};
 ghost use Rattle.ct_model.specs.Tables.{catalogued, table_of};
 ghost use Rattle.ct_database.specs.Storable.{IsWriteStorable, IsSchemaStorable};
 
-use crate::acts;
-use crate::writes;
+use crate::{acts, writes};
 use ct_source::Stored;
 use ct_types::{Catalogued, Copies, List, Memory, Min, Schema, Tracked, Write};
 use std::alloc::Global;

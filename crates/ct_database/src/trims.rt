@@ -16,9 +16,8 @@ fn is_above(version: u64, tracked: Option<Tracked>) -> bool
 fn keeps_change(tables: &[Stored], version: u64, change: &Change) -> bool
     ensures { result ≡ change_stays tables.now version change.now }
 {
-    tables
-        .iter()
-        .any(|table| table.schema().id == change.table && is_above(version, table.tracked()))
+    tables.iter().any(|table| table.schema().id == change.table
+        && is_above(version, table.tracked()))
 }
 
 /// Whether some tracked table needs a commit.
