@@ -2,7 +2,7 @@
 use Rattle.std.proofs.Common.{◌≡◌, ℕ, ◌==◌, Bool, true, false, ◌&&◌, List, [], ◌∷◌, map, Option, Some, None, Ok, Err, refl, sym, ap, subst, ◌∙◌, if◌then◌else◌, eqb-true}
 use Rattle.std.specs.Prelude.{is_ok}
 use Rattle.std.specs.List.{slice_get}
-use Rattle.std.specs.Option.{is_some, option_and_then, option_map, option_or}
+use Rattle.std.specs.Option.{is_some, option_map, option_or}
 use Rattle.std.specs.Ordering.{is_eq}
 use Rattle.std.specs.Result.{result_ok}
 use Rattle.ct_types.specs.declared.bound.BoundExpr.{BoundExpr, roll-BoundExpr, map-BoundExpr}
@@ -22,7 +22,7 @@ use Rattle.ct_types.specs.Answers.{Answer, ◌>>=◌}
 use Rattle.ct_types.specs.Order.{value_cmp}
 use Rattle.ct_types.proofs.Tests.{both}
 use Rattle.ct_expr.specs.Functions.{or_null, counted_or_null}
-use Rattle.ct_expr.specs.Logic.{Truth, or3}
+use Rattle.ct_expr.specs.Logic.{Truth}
 use Rattle.ct_expr.specs.Meaning.{Scene, Meaning, Operand, chain, conjoined, disjoined, listed, of_two, meaning_rule, row_version_rule, scalar_rule, operand_rule, meaning, row_version, scalar, operand}
 use Rattle.ct_expr.specs.Numbers.{negative, compare}
 use Rattle.ct_source.specs.Cells as cells
