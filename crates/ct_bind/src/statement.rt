@@ -135,7 +135,7 @@ fn bind_stmt(binder: &Binder<'_>, keep: Option<Keep>, stmt: &Stmt) -> Result<Bou
 pub fn bind(
     alloc: Global,
     stmt: &Stmt,
-    tables: &List<Catalogued>,
+    tables: &[Catalogued],
     keep: Option<Keep>,
     names: &Variables,
 ) -> Result<Bound, Refusal>
@@ -145,7 +145,7 @@ pub fn bind(
 {
     let binder = Binder {
         alloc,
-        tables: tables.as_slice(),
+        tables,
         variables: names.0.as_slice(),
     };
     bind_stmt(&binder, keep, stmt)

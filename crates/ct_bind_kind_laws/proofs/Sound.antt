@@ -24,7 +24,7 @@ ids_above (table ∷ tables) least id numbered below =
     let apart : nat_eq id table.schema.id ≡ false = grind (arith, nat_tests) in
     (apart, ids_above tables (least + 1) id numbered.1 (omega arith))
 
-ids_distinct : (tables : List Table) (least : ℕ) → AreNumbered least tables → IsDistinct nat_eq (map (λ table. table.schema.id) (map catalogued tables))
+pub ids_distinct : (tables : List Table) (least : ℕ) → AreNumbered least tables → IsDistinct nat_eq (map (λ table. table.schema.id) (map catalogued tables))
 unfolding IsDistinct
 ids_distinct [] least numbered = tt
 ids_distinct (table ∷ tables) least numbered =

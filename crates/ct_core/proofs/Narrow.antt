@@ -81,7 +81,7 @@ all_raised_ids (listed ∷ minima) tables numbered = all_raised_ids minima (map 
 
 defined_id : (schema : Schema) (id : ℕ) (tables : List Table) → schema.id ≡ length tables + id → AreNumbered id tables
     → AreNumbered id (tables ++ record { schema = schema; rows = []; tracked = None } ∷ [])
-defined_id schema id [] next numbered = (next, tt)
+defined_id schema id [] next numbered = (omega (arith, next), tt)
 defined_id schema id (table ∷ tables) next numbered = (numbered.0, defined_id schema (id + 1) tables (omega (arith, next)) numbered.1)
 
 acted_ids : (act : Act) (version : ℕ) (draws : Bool) (tables : List Table) → IsActStorable tables act → AreNumbered 1 tables → AreNumbered 1 (tables_after act version draws tables)

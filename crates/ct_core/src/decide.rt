@@ -188,14 +188,23 @@ fn decide_bound(alloc: Global, db: &Database, statement: Bound) -> Result<Decisi
 }
 
 /// What a sentence means among the tables, without variables.
+fn bound_among(alloc: Global, db: &Database, statement: &Stmt) -> Result<Bound, Refusal>
+    requires { HasTables db.now }
+    ensures value { Gives (binding (catalogue_of db.now) db.now.keep [] statement.now) result }
+    ensures limits { IfOk result KeepsLimits }
+{
+    let names = Variables(List::new(alloc));
+    bind(alloc, statement, db.catalogue(), db.keep(), &names)
+}
+
+/// The same, which the database can store.
 fn bound(alloc: Global, db: &Database, statement: &Stmt) -> Result<Bound, Refusal>
     requires { HasTables db.now }
     ensures value { Gives (binding (catalogue_of db.now) db.now.keep [] statement.now) result }
     ensures limits { IfOk result KeepsLimits }
     ensures stores { IfOk result (StoresWell (catalogue_of db.now)) }
 {
-    let names = Variables(List::new(alloc));
-    bind(alloc, statement, db.catalogue(), db.keep(), &names)
+    bound_among(alloc, db, statement)
 }
 
 fn decide_sentence(alloc: Global, db: &Database, statement: &Stmt) -> Result<Decision, Memory>
