@@ -1,15 +1,13 @@
 -- Tables that are numbered: where the table of an id stands, and what a change of that table alone makes of them.
-use Rattle.std.proofs.Common.{◌≡◌, ◌≢◌, ℕ, ◌+◌, ◌<◌, ◌≤◌, ◌⊎◌, inl, inr, true, false, Bool, cond, ◌==◌, if◌then◌else◌, List, [], ◌∷◌, ◌++◌, length, take, drop, get_or, set, map, fold, Option, Some, None, refl, sym, ap, ap₂, ◌∙◌, subst, eqb-true, eq-eqb, eqb, length-take, length-append, arith}
+use Rattle.std.proofs.Common.{◌≡◌, ◌≢◌, ℕ, ◌+◌, ◌<◌, ◌≤◌, ◌⊎◌, inl, inr, true, false, Bool, cond, ◌==◌, if◌then◌else◌, List, [], ◌∷◌, ◌++◌, length, take, drop, get_or, set, map, fold, Some, None, refl, sym, ap, ap₂, ◌∙◌, subst, eqb-true, eq-eqb, eqb, length-take, arith}
 use Rattle.std.specs.List.{AllByRecursion}
 use Rattle.std.specs.Option.{IfSome}
-use Rattle.std.proofs.lemmas.List.{map-append}
 use Rattle.ct_types.specs.declared.schema.Schema.{Schema}
 use Rattle.ct_types.specs.declared.entry.Write.{Write}
 use Rattle.ct_model.specs.declared.db.Table.{Table}
 use Rattle.ct_model.specs.Apply.{written}
 use Rattle.ct_model.specs.Tables.{table_of, rows_with}
 use Rattle.ct_model.specs.Valid.{AreNumbered}
-use Rattle.ct_model.proofs.Found.{found_id}
 use Rattle.ct_ptree.proofs.Lists.{split_at}
 use Rattle.ct_database.specs.Storable.{IsRowStorable, IsWriteStorable}
 use Rattle.ct_database.proofs.Placed.{set_at}
@@ -17,7 +15,7 @@ use Rattle.ct_database.proofs.Placed.{set_at}
 not_equal : (a b : ℕ) → a ≢ b → eqb a b ≡ false
 not_equal a b other =
     let step : (c : Bool) → c ≡ eqb a b → c ≡ false = elim [ true ↦ (λ e. absurd (other (eqb-true a b (sym e)))) | false ↦ (λ e. refl) ] in
-    sym (refl) ∙ step (eqb a b) refl
+    step (eqb a b) refl
 
 -- ---- no table has the id
 
@@ -113,7 +111,7 @@ pub numbered_more : (from : ℕ) (tables : List Table) (table : Table) → AreNu
 numbered_more from [] table numbered is = (is ∙ omega arith, tt)
 numbered_more from (first ∷ tables) table numbered is = (numbered.0, numbered_more (from + 1) tables table numbered.1 (is ∙ omega arith))
 
-written_schema : (write : Write) (table : Table) → (written write table).schema ≡ table.schema
+pub written_schema : (write : Write) (table : Table) → (written write table).schema ≡ table.schema
 written_schema write table =
     let step : (b : Bool) → (if b then record table { rows = rows_with table.schema table.rows write.key write.row } else table).schema ≡ table.schema = elim [ true ↦ refl | false ↦ refl ] in
     step (table.schema.id == write.table)
@@ -128,6 +126,15 @@ found_same f same P id (table ∷ tables) found =
     let step : (b : Bool) → IfSome (cond b (Some table) (table_of tables id)) (λ t. P t.schema) → IfSome (cond b (Some (f table)) (table_of (map f tables) id)) (λ t. P t.schema) =
     elim [ true ↦ (λ p. subst P (sym (same table)) p) | false ↦ (λ p. found_same f same P id tables p) ] in
     subst (λ (s : Schema). IfSome (cond (eqb s.id id) (Some (f table)) (table_of (map f tables) id)) (λ t. P t.schema)) (sym (same table)) (step (eqb table.schema.id id) found)
+
+-- what holds of the schema of a table that is found after the change holds of it before
+pub found_back : (f : Table → Table) → ((table : Table) → (f table).schema ≡ table.schema) → (P : Schema → Type 0) (id : ℕ) (tables : List Table)
+    → IfSome (table_of (map f tables) id) (λ t. P t.schema) → IfSome (table_of tables id) (λ t. P t.schema)
+found_back f same P id [] found = found
+found_back f same P id (table ∷ tables) found =
+    let step : (b : Bool) → IfSome (cond b (Some (f table)) (table_of (map f tables) id)) (λ t. P t.schema) → IfSome (cond b (Some table) (table_of tables id)) (λ t. P t.schema) =
+    elim [ true ↦ (λ p. subst P (same table) p) | false ↦ (λ p. found_back f same P id tables p) ] in
+    step (eqb table.schema.id id) (subst (λ (s : Schema). IfSome (cond (eqb s.id id) (Some (f table)) (table_of (map f tables) id)) (λ t. P t.schema)) (same table) found)
 
 pub storable_written : (write other : Write) (tables : List Table) → IsWriteStorable tables other → IsWriteStorable (map (written write) tables) other
 storable_written write other tables storable = found_same (written write) (written_schema write) (λ schema. IsRowStorable schema other.key other.row) other.table tables storable

@@ -1,11 +1,11 @@
 -- Lists that are changed place by place.
-use Rattle.std.proofs.Common.{◌≡◌, ℕ, ◌+◌, ◌<◌, List, [], ◌∷◌, ◌++◌, length, take, drop, get_or, set, map, refl, sym, ap, ap₂, ◌∙◌, subst, append_assoc, length-take, take-append-drop, arith}
+use Rattle.std.proofs.Common.{◌≡◌, ℕ, ◌+◌, ◌<◌, List, [], ◌∷◌, ◌++◌, length, take, drop, get_or, set, map, refl, sym, ap, ◌∙◌, subst, append_assoc, length-take, take-append-drop, arith}
 use Rattle.std.proofs.Math.Seq.{set-append_seam}
-use Rattle.std.proofs.lemmas.List.{map-append, length-map, drop_more, take_more}
+use Rattle.std.proofs.lemmas.List.{map-append, length-map, drop_more}
 use Rattle.std.specs.List.{AllByRecursion}
 use Rattle.ct_model.specs.Lists.{EachToLater}
 use Rattle.ct_types.proofs.Lists.{all_front, all_back}
-use Rattle.ct_ptree.proofs.Lists.{split_at, take_at, drop_at}
+use Rattle.ct_ptree.proofs.Lists.{split_at, take_at}
 
 get_seam : {X : Type 0} (front : List X) (x : X) (back : List X) (d : X) → get_or (front ++ x ∷ back) (length front) d ≡ x
 get_seam [] x back d = refl

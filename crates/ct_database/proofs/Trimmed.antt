@@ -1,5 +1,5 @@
 -- What trimming leaves: that it is trimmed, that it rises as before, and that writes change nothing of what is left.
-use Rattle.std.proofs.Common.{◌≡◌, ℕ, ◌<◌, ◌≤◌, Bool, true, false, cond, ◌==◌, ◌&&◌, ◌||◌, List, [], ◌∷◌, ◌++◌, map, filter, fold, Option, Some, None, option_to_list, length, take, MatchBool, refl, sym, ap, ap₂, subst, ◌∙◌, if◌then◌else◌, append-nil, arith}
+use Rattle.std.proofs.Common.{◌≡◌, ℕ, ◌<◌, ◌≤◌, Bool, true, false, cond, ◌==◌, ◌&&◌, ◌||◌, List, [], ◌∷◌, ◌++◌, map, filter, fold, MatchBool, refl, sym, ap, ap₂, subst, ◌∙◌, if◌then◌else◌, arith}
 use mathlib.Core.Path.{fun_ext}
 use Rattle.std.specs.List.{AllByRecursion, list_any}
 use Rattle.std.proofs.lemmas.List.{map-append}
@@ -10,9 +10,8 @@ use Rattle.ct_types.specs.declared.entry.Write.{Write}
 use Rattle.ct_types.specs.declared.entry.Entry.{Entry}
 use Rattle.ct_model.specs.declared.db.Table.{Table}
 use Rattle.ct_model.specs.Apply.{written, change_stays, commit_stays, trim_one, trim, kept_of}
-use Rattle.ct_model.specs.Lists.{EachToLater}
 use Rattle.ct_model.specs.Tables.{rows_with, is_above}
-use Rattle.ct_model.proofs.Members.{all_weaken, all_map, all_filter, each_map, each_filter, each_append}
+use Rattle.ct_model.proofs.Members.{all_weaken, all_map, all_filter, each_map, each_filter}
 use Rattle.ct_types.proofs.Lists.{all_append}
 use Rattle.ct_database.specs.Steps.{DoRise, AreWithin, added_by}
 

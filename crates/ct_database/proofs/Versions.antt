@@ -1,10 +1,9 @@
 -- Commits that stand by version: those up to a version, those above it, and one more behind them.
-use Rattle.std.proofs.Common.{◌≡◌, ℕ, ◌+◌, ◌<◌, ◌≤◌, nat_lt, Bool, true, false, List, [], ◌∷◌, ◌++◌, length, take, drop, get_or, filter, refl, sym, ap, ap₂, ◌∙◌, subst, take-append-drop, arith, tests}
+use Rattle.std.proofs.Common.{◌≡◌, ℕ, ◌+◌, ◌<◌, ◌≤◌, true, false, List, [], ◌∷◌, ◌++◌, length, take, drop, get_or, filter, sym, ap, ap₂, ◌∙◌, subst, take-append-drop, arith, tests}
 use Rattle.std.specs.List.{AllByRecursion}
 use Rattle.std.proofs.lemmas.List.Elements.{filter-append}
 use Rattle.ct_types.specs.declared.entry.Kept.{Kept}
 use Rattle.ct_types.proofs.Lists.{all_append}
-use Rattle.ct_model.specs.Lists.{EachToLater}
 use Rattle.ct_model.proofs.Members.{all_weaken, each_append}
 use Rattle.ct_ptree.proofs.Lists.{filter_all, filter_none, split_at, take_at, drop_at}
 use Rattle.ct_database.specs.Steps.{DoRise, AreWithin, AreBehind, AreNewest, is_later}

@@ -1,2 +1,3 @@
+pub mod Laws
 pub mod Storable
 pub mod Steps

@@ -6,9 +6,11 @@ mod changing;
 mod commits;
 mod database;
 mod fresh;
+mod laws;
 mod net;
 mod tables;
 mod trims;
 mod writes;
 
 pub use database::Database;
+pub use laws::applying_is_storable;

@@ -1,5 +1,5 @@
 -- Pairs whose keys are those of their rows: look-ups and changes of the pairs are those of the rows.
-use Rattle.std.proofs.Common.{◌≡◌, Bool, true, false, cond, List, [], ◌∷◌, ◌++◌, map, filter, find, Option, Some, None, is_some, option_map, ◌||◌, refl, sym, ap, ap₂, ◌∙◌, subst, append_assoc, append-nil}
+use Rattle.std.proofs.Common.{◌≡◌, Bool, true, false, cond, List, [], ◌∷◌, ◌++◌, filter, find, Option, Some, None, is_some, option_map, ◌||◌, refl, sym, ap₂, ◌∙◌, subst, append_assoc}
 use Rattle.std.specs.Prelude.{Result, Ok, Err, OnOk, OnErr}
 use Rattle.std.specs.List.{AllByRecursion, list_any}
 use Rattle.std.specs.Option.{option_copied}
@@ -15,7 +15,7 @@ use Rattle.ct_types.specs.declared.schema.Schema.{Schema}
 use Rattle.ct_types.proofs.Lists.{all_append}
 use Rattle.ct_ptree.specs.declared.pair.Pair.{Pair}
 use Rattle.ct_ptree.specs.Pairs.{Ascends, is_below, is_above, is_at, value_at, with_pair, set_pair, without}
-use Rattle.ct_model.specs.Tables.{key_of, has_that_key, row_at, has_row, rows_with}
+use Rattle.ct_model.specs.Tables.{key_of, row_at, rows_with}
 use Rattle.ct_model.specs.Valid.{AreRising}
 use Rattle.ct_model.proofs.Members.{all_filter}
 use Rattle.ct_source.specs.Rows.{rows_of, AreKeyed, IsWhole}

@@ -3,7 +3,6 @@ use Rattle.std.specs.List.{AllByRecursion}
 use Rattle.std.specs.Vec.Iter.{into_iter_items}
 use Rattle.std.proofs.lemmas.List.Sums.{fold_push}
 use Rattle.ct_model.specs.Apply.{written}
-use Rattle.ct_model.specs.Valid.{AreNumbered}
 use Rattle.ct_database.specs.Storable.{IsWriteStorable}
 use Rattle.ct_database.proofs.Numbered.{numbered_written, all_storable_written}
 use Rattle.ct_database.proofs.writes.write_all.Goals as goal

@@ -1,4 +1,4 @@
-use Rattle.std.proofs.Common.{◌≡◌, ◌++◌, map, fold}
+use Rattle.std.proofs.Common.{◌≡◌, map, fold}
 use Rattle.std.specs.List.{AllByRecursion}
 use Rattle.std.specs.Vec.Iter.{into_iter_items}
 use Rattle.ct_model.specs.Apply.{written}

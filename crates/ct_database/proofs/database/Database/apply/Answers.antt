@@ -1,6 +1,5 @@
-use Rattle.std.proofs.Common.{◌≡◌, ◌<◌, ◌≤◌, ◌++◌, MatchBool, sym, ap, subst, option_to_list}
+use Rattle.std.proofs.Common.{◌<◌, ◌≤◌, ◌++◌, MatchBool, sym, subst, option_to_list}
 use Rattle.ct_model.specs.declared.db.Db.{Db}
-use Rattle.ct_model.specs.Apply.{trim}
 use Rattle.ct_database.proofs.Trimmed.{trimmed_now, added_within}
 use Rattle.ct_database.proofs.database.Database.apply.Goals as goal
 
