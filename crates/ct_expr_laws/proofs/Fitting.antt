@@ -4,15 +4,13 @@ use Rattle.std.specs.List.{slice_get}
 use Rattle.std.specs.Option.{option_map, option_and_then}
 use Rattle.std.specs.Prelude.{codes}
 use Rattle.ct_types.specs.declared.catalogue.Catalogued.{Catalogued}
-use Rattle.ct_types.specs.declared.schema.ColType.{ColType}
-use Rattle.ct_types.specs.declared.schema.ColType.TheVariants as type
 use Rattle.ct_types.specs.declared.refusal.Refusal.TheVariants.{Overflow}
 use Rattle.ct_types.specs.declared.value.Value.{Value}
 use Rattle.ct_types.specs.declared.value.Value.TheVariants as v
 use Rattle.ct_mask.specs.Masks.{reads}
 use Rattle.ct_bind_kinds.specs.declared.kind.Kind.{Kind}
 use Rattle.ct_bind_kinds.specs.declared.kind.Kind.TheVariants.{Number, Text, Bytes, Condition, Null}
-use Rattle.ct_bind_kinds.specs.Kinds.{kind_of_type, agree, is_value, IsOfKind, AreOfKinds}
+use Rattle.ct_bind_kinds.specs.Kinds.{agree, is_value, IsOfKind, AreOfKinds}
 use Rattle.ct_bind_kinds.specs.WellFormed.{either_of}
 use Rattle.ct_expr.specs.Numbers.{fits_64, on_numbers, negative}
 use Rattle.ct_bind_names.specs.Names.{same}
