@@ -11,7 +11,7 @@ use Rattle.ct_expr.specs.Meaning.{holds}
 use Rattle.ct_query.specs.Joins.{Joined, pair, left_only, right_only, with_right, with_left, or_else, is_pair, turned}
 use Rattle.ct_query.specs.Laws.{InnerIsLeftPaired, RightMirrorsLeft, SamePairs, TrueKeepsAll}
 use Rattle.ct_expr.specs.Conditions.{only}
-use Rattle.ct_query.specs.Lists.{all_of}
+use Rattle.ct_scan.specs.Lists.{all_of}
 use Rattle.ct_query.proofs.Through.{all_of-through, only-through}
 
 -- ---- INNER and LEFT

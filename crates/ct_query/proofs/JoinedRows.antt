@@ -9,7 +9,7 @@ use Rattle.ct_types.specs.Answers.{Answer, ◌>>=◌}
 use Rattle.ct_expr.specs.Meaning.{World, holds}
 use Rattle.ct_query.specs.Answer.{joined_rows, answer_over, answer}
 use Rattle.ct_query.specs.Joins.{Joined, alone, pair, left_only, right_only, row_of, only_source, with_right, with_left, or_else, side_by_side}
-use Rattle.ct_query.specs.Lists.{all_of}
+use Rattle.ct_scan.specs.Lists.{all_of}
 use Rattle.ct_query.specs.Steps.{row_in, pairs_of_left, pairs_of_right, rows_of_left, rows_of_right}
 use Rattle.ct_scan.specs.Enough.{AreEnoughLefts, AreEnoughRights}
 use Rattle.ct_query.proofs.Through.{all_of-through, only-mapped, only-through, or_else-through}

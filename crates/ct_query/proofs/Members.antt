@@ -6,7 +6,7 @@ use Rattle.ct_types.specs.declared.refusal.Refusal.{Refusal}
 use Rattle.ct_types.specs.Answers.{Answer, ◌>>=◌, each}
 use Rattle.ct_expr.specs.Conditions.{only}
 use Rattle.ct_scan.proofs.Asked.{from_none, upto_next, parted, only-fails, only-takes, only-skips}
-use Rattle.ct_query.specs.Lists.{all_of}
+use Rattle.ct_scan.specs.Lists.{all_of}
 
 -- ---- joined lists
 

@@ -3,7 +3,7 @@ use Rattle.std.proofs.Common.{◌≡◌, Bool, true, false, cond, List, [], ◌�
 use Rattle.std.proofs.lemmas.Simd.{map-map}
 use Rattle.ct_types.specs.Answers.{Answer, ◌>>=◌}
 use Rattle.ct_expr.specs.Conditions.{only}
-use Rattle.ct_query.specs.Lists.{all_of}
+use Rattle.ct_scan.specs.Lists.{all_of}
 use Rattle.ct_query.specs.Joins.{or_else}
 
 -- ---- all_of

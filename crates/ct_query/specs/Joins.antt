@@ -7,7 +7,7 @@ use Rattle.ct_types.specs.declared.value.Row.{Row}
 use Rattle.ct_types.specs.declared.value.Value.TheVariants.{Null}
 use Rattle.ct_types.specs.Answers.{Answer, ◌>>=◌}
 use Rattle.ct_expr.specs.Conditions.{only}
-use Rattle.ct_query.specs.Lists.{all_of}
+use Rattle.ct_scan.specs.Lists.{all_of}
 
 -- a joined row: a row of the only source, a left and a right row, or a row that stands without a pair
 pub data Joined : Type 0 where

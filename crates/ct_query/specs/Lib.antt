@@ -1,4 +1,3 @@
-pub mod Lists
 pub mod Joins
 pub mod Sorting
 pub mod Answer

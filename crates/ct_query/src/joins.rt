@@ -2,14 +2,14 @@ ghost use Rattle.std.specs.Prelude.{◌≡◌, ◌++◌, IfOk, OnOk, map, replic
 ghost use Rattle.ct_types.specs.declared.value.Value.TheVariants.{Null as null};
 ghost use Rattle.ct_types.specs.Answers.{Gives};
 ghost use Rattle.ct_query.specs.Joins.{pair as a_pair, left_only as a_left, right_only as a_right, row_of, side_by_side};
-ghost use Rattle.ct_query.specs.Lists.{all_of};
+ghost use Rattle.ct_scan.specs.Lists.{all_of};
 ghost use Rattle.ct_query.specs.Steps as spec;
 ghost use Rattle.ct_source.specs.Rows.{lent};
 ghost use Rattle.ct_source.specs.Sources.{source_rows};
 
 use crate::lists::append;
 use ct_expr::{Env, Versions, holds};
-use ct_scan::{lefts_of, rights_of};
+use ct_scan::{lefts_of, rights_of, stand_alike};
 use ct_source::Source;
 use ct_types::{Copies, List, Memory, Plan, Refusal, Row, Value, push};
 use std::alloc::Global;
@@ -168,8 +168,8 @@ fn rows_of_right<L: Versions>(
     Ok(found)
 }
 
-/// The rows of an INNER JOIN, by left row and then right row.
-pub(crate) fn inner<L: Versions>(
+/// The pairs of each of these left rows, in their order.
+fn inner_by_left<L: Versions>(
     alloc: Global,
     plan: &Plan,
     lefts: &[&Row],
@@ -185,6 +185,46 @@ pub(crate) fn inner<L: Versions>(
         append(&mut all, found)?;
     }
     Ok(List::from_vec(all))
+}
+
+/// The pairs of each of these right rows, in their order.
+fn inner_by_right<L: Versions>(
+    alloc: Global,
+    plan: &Plan,
+    lefts: Source<'_>,
+    rights: &[&Row],
+    env: &Env<'_>,
+    versions: &L,
+) -> Result<List<Row>, Refusal>
+    ensures { Gives (all_of (spec.pairs_of_right (record { env = env.now; versions = L.row_of versions.now }) plan.now (source_rows lefts.entry)) (lent rights.now)) result }
+{
+    let mut all = Vec::new(alloc);
+    for right in rights {
+        let found = pairs_of_right(alloc, plan, lefts, right, env, versions)?;
+        append(&mut all, found)?;
+    }
+    Ok(List::from_vec(all))
+}
+
+/// The rows of an INNER JOIN, by left row and then right row. Where they stand alike by right row, as those of a table with
+/// its changes do, no left row is read but those that ON pins.
+pub(crate) fn inner<L: Versions>(
+    alloc: Global,
+    plan: &Plan,
+    lefts: Source<'_>,
+    rights: Source<'_>,
+    env: &Env<'_>,
+    versions: &L,
+) -> Result<List<Row>, Refusal>
+    ensures { Gives (all_of (spec.pairs_of_left (record { env = env.now; versions = L.row_of versions.now }) plan.now (source_rows rights.entry)) (source_rows lefts.entry)) result }
+{
+    if stand_alike(alloc, &plan.on, lefts, rights, env)? {
+        let rights = rights.all(alloc)?;
+        inner_by_right(alloc, plan, lefts, rights.as_slice(), env, versions)
+    } else {
+        let lefts = lefts.all(alloc)?;
+        inner_by_left(alloc, plan, lefts.as_slice(), rights, env, versions)
+    }
 }
 
 /// The rows of a LEFT JOIN, by left row and then right row.

@@ -172,7 +172,8 @@ fn one_source<L: Versions>(
 /// that tie under ORDER BY keep this order.
 ///
 /// Where WHERE pins the key of the only source's table, its row is looked up; so are the right rows that ON pins for a
-/// left row, and in a RIGHT JOIN the left rows that it pins for a right row. Else all rows of the source are tested.
+/// left row, and in a RIGHT JOIN the left rows that it pins for a right row, and also in an INNER JOIN of a table with a
+/// list whose rows pin rising keys. Else all rows of the source are tested.
 ///
 /// `Overflow`: a sum, difference, product or sign does not fit 64 bits in ON on a pair, in WHERE on a joined row, or in
 /// an item or an expression of ORDER BY on a kept row. `Memory` is the only other error.
@@ -190,8 +191,7 @@ pub fn select<L: Versions>(
     match plan.join {
         Join::One => one_source(alloc, plan, left, env, versions),
         Join::Inner => {
-            let lefts = left.all(alloc)?;
-            let rows = inner(alloc, plan, lefts.as_slice(), right, env, versions)?;
+            let rows = inner(alloc, plan, left, right, env, versions)?;
             joined_answer(alloc, plan, rows, env, versions)
         }
         Join::Left => {

@@ -14,11 +14,7 @@ use Rattle.ct_expr.specs.Meaning.{holds}
 use Rattle.ct_keyed.specs.Readings.{pinned}
 use Rattle.ct_keyed.specs.Seen.{Seen, nothing, Agrees}
 use Rattle.ct_keyed.proofs.Filtering.{pinned_over, pinned_rows}
-use Rattle.ct_scan.specs.Enough.{AreEnough, AreEnoughLefts, AreEnoughRights}
-
--- the row of a pair
-abbrev joined : Row → Row → Row
-joined left right = record { 0 = left.0 ++ right.0 }
+use Rattle.ct_scan.specs.Enough.{AreEnough, AreEnoughLefts, AreEnoughRights, pair_row}
 
 -- what is seen of a row that stands from a place on
 abbrev pub seen_from : ℕ → Row → Seen
@@ -30,10 +26,10 @@ pub all_are_enough : (env : Environment) (condition : Option BoundExpr) (all som
 all_are_enough env condition all some same world is = ap (λ (rows : List Row). only (holds world condition) rows) same
 
 pub all_are_lefts : (env : Environment) (on : Option BoundExpr) (right : Row) (all some : List Row) → some ≡ all → AreEnoughLefts env on right all some
-all_are_lefts env on right all some same world is = ap (λ (rows : List Row). only (λ left. holds world on (joined left right)) rows) same
+all_are_lefts env on right all some same world is = ap (λ (rows : List Row). only (λ left. holds world on (pair_row left right)) rows) same
 
 pub all_are_rights : (env : Environment) (on : Option BoundExpr) (left : Row) (all some : List Row) → some ≡ all → AreEnoughRights env on left all some
-all_are_rights env on left all some same world is = ap (λ (rows : List Row). only (λ right. holds world on (joined left right)) rows) same
+all_are_rights env on left all some same world is = ap (λ (rows : List Row). only (λ right. holds world on (pair_row left right)) rows) same
 
 -- ---- rows with the pinned value
 
@@ -64,14 +60,14 @@ known_behind : (place from : ℕ) (b : Bool) (o : Option Value) (v : Value) → 
 known_behind place from true o v is e = absurd cc
 known_behind place from false o v is e = (search (tests, arith), e)
 
-right_agrees : (columns : ℕ) (right left : Row) → length left.0 ≡ columns → Agrees (seen_from columns right) (joined left right)
+right_agrees : (columns : ℕ) (right left : Row) → length left.0 ≡ columns → Agrees (seen_from columns right) (pair_row left right)
 right_agrees columns right left whole place v e =
     let known = known_behind place columns (nat_lt place columns) (slice_get right.0 (place - columns)) v refl e in
     let past : columns ≤ place = known.0 in
     let apart : place ≡ (place - columns) + length left.0 = omega arith in
     ap (λ n. or_null (slice_get (left.0 ++ right.0) n)) apart ∙ ap or_null (behind left.0 right.0 (place - columns)) ∙ ap or_null known.1
 
-left_agrees : (left right : Row) → Agrees (seen_from 0 left) (joined left right)
+left_agrees : (left right : Row) → Agrees (seen_from 0 left) (pair_row left right)
 left_agrees left right place v e =
     let known = known_behind place 0 (nat_lt place 0) (slice_get left.0 (place - 0)) v refl e in
     let same : place ≡ place - 0 = omega arith in
@@ -89,14 +85,14 @@ pub pinned_are_lefts : (env : Environment) (columns at : ℕ) (on : BoundExpr) (
     → some ≡ filter (has_value at v) all → AreEnoughLefts env (Some on) right all some
 pinned_are_lefts env columns at on v right all some within whole pins same world is =
     let here : pinned world.env (seen_from columns right) at on ≡ Some v = ap (λ (e : Environment). pinned e (seen_from columns right) at on) is ∙ pins in
-    let agree : AllByRecursion (λ (left : Row). Agrees (seen_from columns right) (joined left right)) all =
-    all_join (λ (left : Row). length left.0 ≡ columns) (λ (left : Row). length left.0 ≡ columns) (λ (left : Row). Agrees (seen_from columns right) (joined left right)) (λ left one other. right_agrees columns right left one) all whole whole in
-    let alike : AllByRecursion (λ (left : Row). has_value at v (joined left right) ≡ has_value at v left) all =
-    all_join (λ (left : Row). length left.0 ≡ columns) (λ (left : Row). length left.0 ≡ columns) (λ (left : Row). has_value at v (joined left right) ≡ has_value at v left) (λ left one other. front_value at v left right columns within one) all whole whole in
-    ap (λ (rows : List Row). only (λ left. holds world (Some on) (joined left right)) rows) (same ∙ sym (filter_same (λ left. has_value at v (joined left right)) (has_value at v) all alike))
-    ∙ sym (pinned_over world (seen_from columns right) at on v (λ left. joined left right) all agree here)
+    let agree : AllByRecursion (λ (left : Row). Agrees (seen_from columns right) (pair_row left right)) all =
+    all_join (λ (left : Row). length left.0 ≡ columns) (λ (left : Row). length left.0 ≡ columns) (λ (left : Row). Agrees (seen_from columns right) (pair_row left right)) (λ left one other. right_agrees columns right left one) all whole whole in
+    let alike : AllByRecursion (λ (left : Row). has_value at v (pair_row left right) ≡ has_value at v left) all =
+    all_join (λ (left : Row). length left.0 ≡ columns) (λ (left : Row). length left.0 ≡ columns) (λ (left : Row). has_value at v (pair_row left right) ≡ has_value at v left) (λ left one other. front_value at v left right columns within one) all whole whole in
+    ap (λ (rows : List Row). only (λ left. holds world (Some on) (pair_row left right)) rows) (same ∙ sym (filter_same (λ left. has_value at v (pair_row left right)) (has_value at v) all alike))
+    ∙ sym (pinned_over world (seen_from columns right) at on v (λ left. pair_row left right) all agree here)
   where
-    front_value : (at : ℕ) (v : Value) (left right : Row) (columns : ℕ) → at < columns → length left.0 ≡ columns → has_value at v (joined left right) ≡ has_value at v left
+    front_value : (at : ℕ) (v : Value) (left right : Row) (columns : ℕ) → at < columns → length left.0 ≡ columns → has_value at v (pair_row left right) ≡ has_value at v left
     front_value at v left right columns within whole =
         let inside : at < length left.0 = omega arith in
         ap (λ (o : Option Value). is_eq (value_cmp (or_null o) v)) (in_front left.0 right.0 at inside)
@@ -106,12 +102,12 @@ pub pinned_are_rights : (env : Environment) (at place : ℕ) (on : BoundExpr) (v
     → some ≡ filter (has_value at v) all → AreEnoughRights env (Some on) left all some
 pinned_are_rights env at place on v left all some behind_left pins same world is =
     let here : pinned world.env (seen_from 0 left) place on ≡ Some v = ap (λ (e : Environment). pinned e (seen_from 0 left) place on) is ∙ pins in
-    let agree : AllByRecursion (λ (right : Row). Agrees (seen_from 0 left) (joined left right)) all = all_everywhere (λ (right : Row). Agrees (seen_from 0 left) (joined left right)) (λ right. left_agrees left right) all in
-    let alike : AllByRecursion (λ (right : Row). has_value place v (joined left right) ≡ has_value at v right) all =
-    all_everywhere (λ (right : Row). has_value place v (joined left right) ≡ has_value at v right) (λ right. back_value right) all in
-    ap (λ (rows : List Row). only (λ right. holds world (Some on) (joined left right)) rows) (same ∙ sym (filter_same (λ right. has_value place v (joined left right)) (has_value at v) all alike))
-    ∙ sym (pinned_over world (seen_from 0 left) place on v (λ right. joined left right) all agree here)
+    let agree : AllByRecursion (λ (right : Row). Agrees (seen_from 0 left) (pair_row left right)) all = all_everywhere (λ (right : Row). Agrees (seen_from 0 left) (pair_row left right)) (λ right. left_agrees left right) all in
+    let alike : AllByRecursion (λ (right : Row). has_value place v (pair_row left right) ≡ has_value at v right) all =
+    all_everywhere (λ (right : Row). has_value place v (pair_row left right) ≡ has_value at v right) (λ right. back_value right) all in
+    ap (λ (rows : List Row). only (λ right. holds world (Some on) (pair_row left right)) rows) (same ∙ sym (filter_same (λ right. has_value place v (pair_row left right)) (has_value at v) all alike))
+    ∙ sym (pinned_over world (seen_from 0 left) place on v (λ right. pair_row left right) all agree here)
   where
-    back_value : (right : Row) → has_value place v (joined left right) ≡ has_value at v right
+    back_value : (right : Row) → has_value place v (pair_row left right) ≡ has_value at v right
     back_value right =
-        ap (λ (n : ℕ). has_value n v (joined left right)) behind_left ∙ ap (λ (o : Option Value). is_eq (value_cmp (or_null o) v)) (behind left.0 right.0 at)
+        ap (λ (n : ℕ). has_value n v (pair_row left right)) behind_left ∙ ap (λ (o : Option Value). is_eq (value_cmp (or_null o) v)) (behind left.0 right.0 at)

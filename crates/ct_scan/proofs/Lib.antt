@@ -1,2 +1,4 @@
 pub mod Asked
 pub mod Candidates
+pub mod Crossing
+pub mod Alike

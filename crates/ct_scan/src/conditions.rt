@@ -1,4 +1,4 @@
-ghost use Rattle.std.specs.Prelude.{◌<◌, IfOk, IfSome, Some, length};
+ghost use Rattle.std.specs.Prelude.{◌≡◌, ◌<◌, ◌+◌, ◌∷◌, [], IfOk, IfSome, Some, length};
 ghost use Rattle.ct_expr.specs.Meaning.{holds as is_true};
 ghost use Rattle.ct_expr.specs.Conditions.{only};
 ghost use Rattle.ct_scan.specs.Enough.{AreEnough};
@@ -13,7 +13,8 @@ use std::alloc::Global;
 
 /// The place, counted from 0, of the column that is the key of a table, where one column is.
 pub(crate) fn key_place(table: &Stored) -> Option<u32>
-    ensures { IfSome result (λ at. at < length table.now.schema.columns) }
+    ensures within { IfSome result (λ at. at < length table.now.schema.columns) }
+    ensures only { IfSome result (λ at. table.now.schema.key ≡ (at + 1) ∷ []) }
 {
     table.rows_rise();
     match table.schema().key.as_slice() {

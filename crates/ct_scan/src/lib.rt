@@ -3,7 +3,9 @@
 #![tactic(auto)]
 
 mod conditions;
+mod orders;
 mod partners;
 
 pub use conditions::rows_where;
+pub use orders::stand_alike;
 pub use partners::{lefts_of, rights_of};

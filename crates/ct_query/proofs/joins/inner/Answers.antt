@@ -1,13 +1,17 @@
-use Rattle.std.proofs.Common.{arith}
-use Rattle.std.proofs.lemmas.Result.{err_from_is_err_and}
-use Rattle.ct_query.proofs.Members.{all_of-at, all_of-fails}
+use Rattle.std.proofs.Common.{List, refl, sym, ap, ◌∙◌, subst}
+use denote.Ref.{Bor}
+use Rattle.ct_types.specs.declared.value.Row.{Row}
+use Rattle.ct_types.specs.Answers.{Answer, Gives}
+use Rattle.ct_expr.specs.Meaning.{World}
+use Rattle.ct_scan.specs.Lists.{all_of}
+use Rattle.ct_source.specs.Rows.{lent}
+use Rattle.ct_source.specs.Sources.{source_rows}
+use Rattle.ct_query.specs.Steps.{pairs_of_right}
 use Rattle.ct_query.proofs.joins.inner.Goals as goal
 
-pub returns-in_err-found : goal.returns-in_err-found
-returns-in_err-found g c =
-    let p = err_from_is_err_and c.from_residual.result c.from_residual.ensures.1 in
-    rw (p.1, p.2) (λ ne. all_of-fails _ (λ one. one.now) c.args.lefts.now c.loop-left.left-index c.left-item.result c.loop-left.all.items c.in_err-found.field-0.0 (omega arith) c.left-item.is c.loop-left.invariant (c.in_err-found.ensures ne))
-
-pub loop-left-preserved : goal.loop-left-preserved
-loop-left-preserved g c =
-    all_of-at _ (λ one. one.now) c.args.lefts.now c.loop-left.left-index c.left-item.result c.loop-left.all.items _ c.in_ok-found.found (omega arith) c.left-item.is c.loop-left.invariant c.in_ok-found.ensures c.in_ok-append.ensures
+pub returns-in_ok-rights : goal.returns-in_ok-rights
+returns-in_ok-rights g c =
+    let plan = c.args.plan.now in let lefts = source_rows c.args.lefts in
+    let world : World = record { env = c.args.env.now; versions = g.L.Versions.row_of c.args.versions.now } in
+    let P : Answer (List Row) → Type 0 = λ wanted. Gives wanted c.inner_by_right.result in
+    subst P (ap (λ (rights : List (Bor Row)). all_of (pairs_of_right world plan lefts) (lent rights)) c.as_slice.ensures ∙ ap (all_of (pairs_of_right world plan lefts)) c.in_ok-rights.ensures ∙ sym (c.in_ok-stand_alike.ensures c.if-branch.true world refl)) c.inner_by_right.ensures

@@ -1,5 +1,5 @@
 use Rattle.std.proofs.Common.{◌≡◌, take, Ok}
-use Rattle.ct_query.specs.Lists.{all_of}
+use Rattle.ct_scan.specs.Lists.{all_of}
 use Rattle.ct_source.specs.Rows.{lent}
 use Rattle.ct_source.specs.Sources.{source_rows}
 use Rattle.ct_query.specs.Steps.{rows_of_right}

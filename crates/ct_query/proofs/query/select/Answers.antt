@@ -5,8 +5,8 @@ use Rattle.ct_expr.specs.Meaning.{World}
 use Rattle.ct_source.specs.Rows.{lent}
 use Rattle.ct_source.specs.Sources.{source_rows}
 use Rattle.ct_query.specs.Joins.{row_of, side_by_side}
-use Rattle.ct_query.specs.Lists.{all_of}
-use Rattle.ct_query.specs.Steps.{pairs_of_left, rows_of_left, rows_of_right}
+use Rattle.ct_scan.specs.Lists.{all_of}
+use Rattle.ct_query.specs.Steps.{rows_of_left, rows_of_right}
 use Rattle.ct_query.proofs.JoinedRows.{one_rows, inner_rows, left_rows, right_rows, applied_rows, answer-over, answer-stops}
 use Rattle.ct_query.proofs.query.select.Goals as goal
 
@@ -20,22 +20,20 @@ pub returns-in_err-rows-in-Inner : goal.returns-in_err-rows-in-Inner
 returns-in_err-rows-in-Inner g c =
     let plan = c.args.plan.now in let left = source_rows c.args.left in let right = source_rows c.args.right in
     let world : World = record { env = c.args.env.now; versions = g.L.Versions.row_of c.args.versions.now } in
-    let lent_all : lent c.as_slice.result.now ≡ left = ap lent c.as_slice.ensures ∙ c.in_ok-lefts-in-Inner.ensures in
-    let p = err_from_is_err_and c.from_residual-in_err-rows-in-Inner.result c.from_residual-in_err-rows-in-Inner.ensures.1 in
-    rw (p.1, p.2) (λ ne. answer-stops world plan left right c.in_err-rows-in-Inner.field-0.0 (sym (inner_rows world plan left right c.in-Inner.is) ∙ ap (all_of (pairs_of_left world plan right)) (sym lent_all) ∙ c.in_err-rows-in-Inner.ensures ne))
+    let p = err_from_is_err_and c.from_residual.result c.from_residual.ensures.1 in
+    rw (p.1, p.2) (λ ne. answer-stops world plan left right c.in_err-rows-in-Inner.field-0.0 (sym (inner_rows world plan left right c.in-Inner.is) ∙ c.in_err-rows-in-Inner.ensures ne))
 
 pub returns-in_ok-rows-in-Inner : goal.returns-in_ok-rows-in-Inner
 returns-in_ok-rows-in-Inner g c =
     let plan = c.args.plan.now in let left = source_rows c.args.left in let right = source_rows c.args.right in
     let world : World = record { env = c.args.env.now; versions = g.L.Versions.row_of c.args.versions.now } in
-    let lent_all : lent c.as_slice.result.now ≡ left = ap lent c.as_slice.ensures ∙ c.in_ok-lefts-in-Inner.ensures in
-    rw (answer-over world plan left right c.in_ok-rows-in-Inner.rows (sym (inner_rows world plan left right c.in-Inner.is) ∙ ap (all_of (pairs_of_left world plan right)) (sym lent_all) ∙ c.in_ok-rows-in-Inner.ensures)) c.joined_answer.ensures
+    rw (answer-over world plan left right c.in_ok-rows-in-Inner.rows (sym (inner_rows world plan left right c.in-Inner.is) ∙ c.in_ok-rows-in-Inner.ensures)) c.joined_answer.ensures
 
 pub returns-in_err-rows-in-Left : goal.returns-in_err-rows-in-Left
 returns-in_err-rows-in-Left g c =
     let plan = c.args.plan.now in let left = source_rows c.args.left in let right = source_rows c.args.right in
     let world : World = record { env = c.args.env.now; versions = g.L.Versions.row_of c.args.versions.now } in
-    let lent_all : lent c.as_slice-in-Left.result.now ≡ left = ap lent c.as_slice-in-Left.ensures ∙ c.in_ok-lefts-in-Left.ensures in
+    let lent_all : lent c.as_slice.result.now ≡ left = ap lent c.as_slice.ensures ∙ c.in_ok-lefts-in-Left.ensures in
     let p = err_from_is_err_and c.from_residual-in_err-rows-in-Left.result c.from_residual-in_err-rows-in-Left.ensures.1 in
     rw (p.1, p.2) (λ ne. answer-stops world plan left right c.in_err-rows-in-Left.field-0.0 (sym (left_rows world plan left right c.in-Left.is) ∙ ap (all_of (rows_of_left world plan right)) (sym lent_all) ∙ c.in_err-rows-in-Left.ensures ne))
 
@@ -43,7 +41,7 @@ pub returns-in_ok-rows-in-Left : goal.returns-in_ok-rows-in-Left
 returns-in_ok-rows-in-Left g c =
     let plan = c.args.plan.now in let left = source_rows c.args.left in let right = source_rows c.args.right in
     let world : World = record { env = c.args.env.now; versions = g.L.Versions.row_of c.args.versions.now } in
-    let lent_all : lent c.as_slice-in-Left.result.now ≡ left = ap lent c.as_slice-in-Left.ensures ∙ c.in_ok-lefts-in-Left.ensures in
+    let lent_all : lent c.as_slice.result.now ≡ left = ap lent c.as_slice.ensures ∙ c.in_ok-lefts-in-Left.ensures in
     rw (answer-over world plan left right c.in_ok-rows-in-Left.rows (sym (left_rows world plan left right c.in-Left.is) ∙ ap (all_of (rows_of_left world plan right)) (sym lent_all) ∙ c.in_ok-rows-in-Left.ensures)) c.joined_answer-in-Left.ensures
 
 pub returns-in_err-rows-in-Right : goal.returns-in_err-rows-in-Right
