@@ -1,6 +1,7 @@
 //! Names and expressions of the language, read from tokens exactly by their rules.
 #![tactic(auto)]
 
+mod hold;
 mod level;
 mod names;
 mod operators;
@@ -8,6 +9,7 @@ mod primary;
 mod trees;
 mod values;
 
+pub use hold::{beside, then_skip};
 pub use level::Entry;
 pub use names::{alias, name_list};
 pub use trees::with_first;

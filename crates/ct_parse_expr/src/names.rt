@@ -7,6 +7,7 @@ ghost use Rattle.ct_parse_expr.specs.Nests.{Nests};
 ghost use Rattle.ct_parse_expr.specs.ReadExpr as spec;
 ghost use Rattle.ct_parse_expr.specs.declared.level.Entry.TheVariants.{Whole};
 
+use crate::hold::{beside, then_skip};
 use crate::trees::{column_of, with_first};
 use ct_grammar::{Cursor, Fault, Kind, maybe_second, read_many};
 use ct_types::{Expr, List, Text};
@@ -45,9 +46,10 @@ pub fn name_list(alloc: Global, tokens: &mut Cursor<'_>) -> Result<List<Text>, F
 {
     tokens.skip(Kind::Open)?;
     let first = tokens.name(alloc)?;
-    let more = more_names(alloc, tokens)?;
-    tokens.skip(Kind::Close)?;
-    Ok(with_first(first, more)?)
+    let more = more_names(alloc, tokens);
+    let (first, more) = beside(first, more)?;
+    let names = with_first(first, more)?;
+    then_skip(names, tokens, Kind::Close)
 }
 
 #[tactic(auto, unfolding(crate::specs::ReadExpr::column))]
@@ -55,6 +57,7 @@ pub fn column(alloc: Global, tokens: &mut Cursor<'_>) -> Result<Expr, Fault>
     ensures { Reads (spec.column tokens.old) result tokens.new }
 {
     let first = tokens.name(alloc)?;
-    let second = maybe_second(alloc, tokens)?;
+    let second = maybe_second(alloc, tokens);
+    let (first, second) = beside(first, second)?;
     Ok(Expr::Column(column_of(first, second)))
 }

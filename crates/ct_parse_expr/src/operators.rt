@@ -7,6 +7,7 @@ ghost use Rattle.ct_parse_expr.specs.Nests.{Nests};
 ghost use Rattle.ct_parse_expr.specs.ReadExpr as spec;
 ghost use Rattle.ct_parse_expr.specs.declared.level.Entry.TheVariants.{Whole};
 
+use crate::hold::beside;
 use crate::level::{Entry, Parser, Test};
 use crate::trees::{comparison_of, in_tree, null_test, term_of, tested, with_first};
 use ct_grammar::{Cursor, Fault, Kind, read_many};
@@ -80,7 +81,8 @@ impl<F: Fn(Global, &mut Cursor<'_>, usize, Entry) -> Result<Expr, Fault>> Parser
         ensures { Reads (spec.product (spec.expr self.now.depth) self.now.depth tokens.old) result tokens.new }
     {
         let first = self.unary(tokens)?;
-        let more = self.factors(tokens)?;
+        let more = self.factors(tokens);
+        let (first, more) = beside(first, more)?;
         if more.as_slice().is_empty() {
             return Ok(first);
         }
@@ -113,7 +115,8 @@ impl<F: Fn(Global, &mut Cursor<'_>, usize, Entry) -> Result<Expr, Fault>> Parser
         ensures { Reads (spec.sum (spec.expr self.now.depth) self.now.depth tokens.old) result tokens.new }
     {
         let first = self.product(tokens)?;
-        let more = self.terms(tokens)?;
+        let more = self.terms(tokens);
+        let (first, more) = beside(first, more)?;
         if more.as_slice().is_empty() {
             return Ok(first);
         }
@@ -162,7 +165,8 @@ impl<F: Fn(Global, &mut Cursor<'_>, usize, Entry) -> Result<Expr, Fault>> Parser
         ensures { Reads (spec.predicate (spec.expr self.now.depth) self.now.depth tokens.old) result tokens.new }
     {
         let left = self.sum(tokens)?;
-        let behind = self.behind_sum(tokens)?;
+        let behind = self.behind_sum(tokens);
+        let (left, behind) = beside(left, behind)?;
         Ok(tested(self.alloc, left, behind)?)
     }
 
@@ -208,7 +212,8 @@ impl<F: Fn(Global, &mut Cursor<'_>, usize, Entry) -> Result<Expr, Fault>> Parser
         ensures { Reads (spec.conjunction (spec.expr self.now.depth) self.now.depth tokens.old) result tokens.new }
     {
         let first = self.negation(tokens)?;
-        let more = self.and_more(tokens)?;
+        let more = self.and_more(tokens);
+        let (first, more) = beside(first, more)?;
         if more.as_slice().is_empty() {
             return Ok(first);
         }
@@ -240,7 +245,8 @@ impl<F: Fn(Global, &mut Cursor<'_>, usize, Entry) -> Result<Expr, Fault>> Parser
         ensures { Reads (spec.disjunction (spec.expr self.now.depth) self.now.depth tokens.old) result tokens.new }
     {
         let first = self.conjunction(tokens)?;
-        let more = self.or_more(tokens)?;
+        let more = self.or_more(tokens);
+        let (first, more) = beside(first, more)?;
         if more.as_slice().is_empty() {
             return Ok(first);
         }

@@ -7,6 +7,7 @@ ghost use Rattle.ct_parse_expr.specs.Nests.{Nests};
 ghost use Rattle.ct_parse_expr.specs.ReadExpr as spec;
 ghost use Rattle.ct_parse_expr.specs.declared.level.Entry.TheVariants.{Whole};
 
+use crate::hold::{beside, then_skip};
 use crate::level::{Entry, Parser};
 use crate::names::{alias, column, name_list};
 use crate::trees::{call_one, call_two, in_tree, with_first};
@@ -65,9 +66,10 @@ impl<F: Fn(Global, &mut Cursor<'_>, usize, Entry) -> Result<Expr, Fault>> Parser
     {
         tokens.skip(Kind::Open)?;
         let first = self.value(tokens)?;
-        let more = self.more_values(tokens)?;
-        tokens.skip(Kind::Close)?;
-        Ok(in_tree(with_first(first, more)?))
+        let more = self.more_values(tokens);
+        let (first, more) = beside(first, more)?;
+        let values = with_first(first, more)?;
+        Ok(in_tree(then_skip(values, tokens, Kind::Close)?))
     }
 
     /// A row's version, from VERSION on.
@@ -78,11 +80,13 @@ impl<F: Fn(Global, &mut Cursor<'_>, usize, Entry) -> Result<Expr, Fault>> Parser
     {
         tokens.skip(Kind::Version)?;
         let table = table_name(self.alloc, tokens)?;
-        tokens.skip(Kind::Comma)?;
-        let columns = name_list(self.alloc, tokens)?;
-        tokens.skip(Kind::Comma)?;
-        let values = self.tuple(tokens)?;
-        tokens.skip(Kind::Close)?;
+        let table = then_skip(table, tokens, Kind::Comma)?;
+        let columns = name_list(self.alloc, tokens);
+        let names = beside(table, columns)?;
+        let names = then_skip(names, tokens, Kind::Comma)?;
+        let values = self.tuple(tokens);
+        let row = beside(names, values)?;
+        let ((table, columns), values) = then_skip(row, tokens, Kind::Close)?;
         Ok(RowVersion {
             table,
             columns,
@@ -108,11 +112,14 @@ impl<F: Fn(Global, &mut Cursor<'_>, usize, Entry) -> Result<Expr, Fault>> Parser
     {
         tokens.skip(Kind::Select)?;
         let source = tokens.name(self.alloc)?;
-        tokens.skip(Kind::Dot)?;
-        let column = tokens.name(self.alloc)?;
-        tokens.skip(Kind::From)?;
-        let version = self.version(tokens)?;
-        let alias = alias(self.alloc, tokens)?;
+        let source = then_skip(source, tokens, Kind::Dot)?;
+        let column = tokens.name(self.alloc);
+        let names = beside(source, column)?;
+        let names = then_skip(names, tokens, Kind::From)?;
+        let version = self.version(tokens);
+        let row = beside(names, version)?;
+        let alias = alias(self.alloc, tokens);
+        let (((source, column), version), alias) = beside(row, alias)?;
         Ok(Scalar {
             source,
             column,
@@ -148,8 +155,7 @@ impl<F: Fn(Global, &mut Cursor<'_>, usize, Entry) -> Result<Expr, Fault>> Parser
         ensures { Reads (spec.enclosed (spec.expr self.now.depth) self.now.depth tokens.old) result tokens.new }
     {
         let value = self.enclosed_value(tokens)?;
-        tokens.skip(Kind::Close)?;
-        Ok(value)
+        then_skip(value, tokens, Kind::Close)
     }
 
     fn guarded_value(&self, tokens: &mut Cursor<'_>) -> Result<Expr, Fault>
@@ -177,8 +183,7 @@ impl<F: Fn(Global, &mut Cursor<'_>, usize, Entry) -> Result<Expr, Fault>> Parser
         ensures { Reads (spec.one_argument (spec.expr self.now.depth) self.now.depth tokens.old) result tokens.new }
     {
         let value = self.value(tokens)?;
-        tokens.skip(Kind::Close)?;
-        Ok(value)
+        then_skip(value, tokens, Kind::Close)
     }
 
     #[tactic(auto, unfolding(crate::specs::ReadExpr::two_arguments))]
@@ -187,10 +192,10 @@ impl<F: Fn(Global, &mut Cursor<'_>, usize, Entry) -> Result<Expr, Fault>> Parser
         ensures { Reads (spec.two_arguments (spec.expr self.now.depth) self.now.depth tokens.old) result tokens.new }
     {
         let first = self.value(tokens)?;
-        tokens.skip(Kind::Comma)?;
-        let second = self.value(tokens)?;
-        tokens.skip(Kind::Close)?;
-        Ok((first, second))
+        let first = then_skip(first, tokens, Kind::Comma)?;
+        let second = self.value(tokens);
+        let both = beside(first, second)?;
+        then_skip(both, tokens, Kind::Close)
     }
 
     /// A whole expression, one level deeper, in a box.
@@ -208,11 +213,13 @@ impl<F: Fn(Global, &mut Cursor<'_>, usize, Entry) -> Result<Expr, Fault>> Parser
         ensures { Reads (spec.three_arguments (spec.expr self.now.depth) self.now.depth tokens.old) result tokens.new }
     {
         let first = self.boxed(tokens)?;
-        tokens.skip(Kind::Comma)?;
-        let second = self.boxed(tokens)?;
-        tokens.skip(Kind::Comma)?;
-        let third = self.boxed(tokens)?;
-        tokens.skip(Kind::Close)?;
+        let first = then_skip(first, tokens, Kind::Comma)?;
+        let second = self.boxed(tokens);
+        let two = beside(first, second)?;
+        let two = then_skip(two, tokens, Kind::Comma)?;
+        let third = self.boxed(tokens);
+        let three = beside(two, third)?;
+        let ((first, second), third) = then_skip(three, tokens, Kind::Close)?;
         Ok((first, (second, third)))
     }
 

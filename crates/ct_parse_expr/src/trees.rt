@@ -41,6 +41,15 @@ pub fn column_of(first: Text, second: Option<Text>) -> ColumnName
     }
 }
 
+/// Both in boxes.
+fn two_boxes<T: Drop>(alloc: Global, first: T, second: T) -> Result<(Boxed<T>, Boxed<T>), Memory>
+    ensures { IfOk result (λ boxes. (boxes.0 ≡ first) × (boxes.1 ≡ second)) }
+{
+    let first = Boxed::new(alloc, first)?;
+    let second = Boxed::new(alloc, second)?;
+    Ok((first, second))
+}
+
 /// A call with one argument, by the function's word.
 pub fn call_one(alloc: Global, word: Kind, value: Expr) -> Result<Expr, Memory>
     ensures { IfOk result (λ call. call ≡ spec.call_one word value) }
@@ -56,8 +65,7 @@ pub fn call_one(alloc: Global, word: Kind, value: Expr) -> Result<Expr, Memory>
 pub fn call_two(alloc: Global, word: Kind, first: Expr, second: Expr) -> Result<Expr, Memory>
     ensures { IfOk result (λ call. call ≡ spec.call_two word first second) }
 {
-    let first = Boxed::new(alloc, first)?;
-    let second = Boxed::new(alloc, second)?;
+    let (first, second) = two_boxes(alloc, first, second)?;
     match word {
         Kind::IsNull => Ok(Expr::IfNull(first, second)),
         _ => Ok(Expr::IsColumnInMask(first, second)),
@@ -114,8 +122,8 @@ pub fn tested(alloc: Global, left: Expr, behind: Option<Test>) -> Result<Expr, M
     match behind {
         None => Ok(left),
         Some(Test::Compared(operator, right)) => {
-            let left = Boxed::new(alloc, left)?;
-            Ok(Expr::Compare(operator, left, Boxed::new(alloc, right)?))
+            let (left, right) = two_boxes(alloc, left, right)?;
+            Ok(Expr::Compare(operator, left, right))
         }
         Some(Test::Null) => Ok(Expr::IsNull(Boxed::new(alloc, left)?)),
         Some(Test::NotNull) => Ok(Expr::IsNotNull(Boxed::new(alloc, left)?)),
