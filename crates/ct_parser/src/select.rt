@@ -10,7 +10,7 @@ ghost use Rattle.ct_parser.specs.Statements.{directions};
 use crate::levels::Parser;
 use crate::trees::{descends, list_in};
 use ct_grammar::{Cursor, Fault, Kind, NAMES, read_many};
-use ct_parse_expr::{value, with_first};
+use ct_parse_expr::{beside, then_skip, value, with_first};
 use ct_types::{Expr, List, OrderItem, Select, SelectItem, Stmt};
 
 const DIRECTIONS: &[Kind] = &[Kind::Asc, Kind::Desc];
@@ -39,8 +39,8 @@ impl Parser {
         ensures { Reads (spec.item_all_of (exprs.expr self.now.depth) tokens.old) result tokens.new }
     {
         let name = tokens.name(self.alloc)?;
-        tokens.skip(Kind::Dot)?;
-        tokens.skip(Kind::Star)?;
+        let name = then_skip(name, tokens, Kind::Dot)?;
+        let name = then_skip(name, tokens, Kind::Star)?;
         Ok(SelectItem::AllOf(name))
     }
 
@@ -49,7 +49,8 @@ impl Parser {
         ensures { Reads (spec.item_one (exprs.expr self.now.depth) tokens.old) result tokens.new }
     {
         let value = value(self.alloc, tokens, self.depth)?;
-        let alias = self.maybe_alias(tokens)?;
+        let alias = self.maybe_alias(tokens);
+        let (value, alias) = beside(value, alias)?;
         Ok(SelectItem::One { value, alias })
     }
 
@@ -102,7 +103,8 @@ impl Parser {
         ensures { Reads (spec.order_item (exprs.expr self.now.depth) tokens.old) result tokens.new }
     {
         let value = value(self.alloc, tokens, self.depth)?;
-        let direction = self.maybe_direction(tokens)?;
+        let direction = self.maybe_direction(tokens);
+        let (value, direction) = beside(value, direction)?;
         Ok(OrderItem {
             value,
             descending: descends(direction),
@@ -136,7 +138,8 @@ impl Parser {
         tokens.skip(Kind::Order)?;
         tokens.skip(Kind::By)?;
         let first = self.order_item(tokens)?;
-        let more = self.more_order(tokens)?;
+        let more = self.more_order(tokens);
+        let (first, more) = beside(first, more)?;
         Ok(with_first(first, more)?)
     }
 
@@ -156,12 +159,17 @@ impl Parser {
     {
         tokens.skip(Kind::Select)?;
         let first = self.item(tokens)?;
-        let more = self.more_items(tokens)?;
-        let from = self.maybe_from(tokens)?;
-        let condition = self.maybe_condition(tokens)?;
-        let order = self.maybe_order(tokens)?;
+        let more = self.more_items(tokens);
+        let (first, more) = beside(first, more)?;
+        let items = with_first(first, more)?;
+        let from = self.maybe_from(tokens);
+        let held = beside(items, from)?;
+        let condition = self.maybe_condition(tokens);
+        let held = beside(held, condition)?;
+        let order = self.maybe_order(tokens);
+        let (((items, from), condition), order) = beside(held, order)?;
         Ok(Select {
-            items: with_first(first, more)?,
+            items,
             from,
             condition,
             order: list_in(self.alloc, order),

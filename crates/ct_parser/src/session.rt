@@ -10,7 +10,7 @@ ghost use Rattle.ct_parser.specs.Statements.{transactions};
 use crate::levels::Parser;
 use ct_grammar::{Cursor, Fault, Kind};
 use ct_parse_definition::type_name;
-use ct_parse_expr::value;
+use ct_parse_expr::{beside, then_skip, value};
 use ct_types::{Expr, Isolation, Stmt};
 
 const TRANSACTIONS: &[Kind] = &[Kind::Tran, Kind::Transaction];
@@ -98,8 +98,9 @@ impl Parser {
         ensures { Reads (spec.set_variable (exprs.expr self.now.depth) tokens.old) result tokens.new }
     {
         let variable = tokens.variable(self.alloc)?;
-        tokens.skip(Kind::Equal)?;
-        let value = value(self.alloc, tokens, self.depth)?;
+        let variable = then_skip(variable, tokens, Kind::Equal)?;
+        let value = value(self.alloc, tokens, self.depth);
+        let (variable, value) = beside(variable, value)?;
         Ok(Stmt::SetVariable { variable, value })
     }
 
@@ -148,9 +149,11 @@ impl Parser {
     {
         tokens.skip(Kind::Declare)?;
         let variable = tokens.variable(self.alloc)?;
-        tokens.skip_if(Kind::As)?;
-        let kind = type_name(self.alloc, tokens)?;
-        let value = self.maybe_value(tokens)?;
+        tokens.eat(Kind::As);
+        let kind = type_name(self.alloc, tokens);
+        let held = beside(variable, kind)?;
+        let value = self.maybe_value(tokens);
+        let ((variable, kind), value) = beside(held, value)?;
         Ok(Stmt::Declare {
             variable,
             kind,

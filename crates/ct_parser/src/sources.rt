@@ -11,7 +11,7 @@ use crate::levels::Parser;
 use crate::parts::ChangeTable;
 use crate::trees::source_of;
 use ct_grammar::{Cursor, Fault, Kind, table_name};
-use ct_parse_expr::{alias, value, version, version_tail};
+use ct_parse_expr::{alias, beside, then_skip, value, version, version_tail};
 use ct_types::{FromClause, JoinClause, JoinKind, Source, TableSource, Text, VersionSource};
 
 const ALIAS: &[Kind] = &[
@@ -78,7 +78,8 @@ impl Parser {
         ensures { Reads (spec.table_source tokens.old) result tokens.new }
     {
         let table = table_name(self.alloc, tokens)?;
-        let alias = self.maybe_alias(tokens)?;
+        let alias = self.maybe_alias(tokens);
+        let (table, alias) = beside(table, alias)?;
         Ok(TableSource { table, alias })
     }
 
@@ -132,7 +133,8 @@ impl Parser {
         ensures { Reads (spec.version_source (exprs.expr self.now.depth) tokens.old) result tokens.new }
     {
         let version = version(self.alloc, tokens, self.depth)?;
-        let alias = alias(self.alloc, tokens)?;
+        let alias = alias(self.alloc, tokens);
+        let (version, alias) = beside(version, alias)?;
         Ok(VersionSource { version, alias })
     }
 
@@ -142,9 +144,10 @@ impl Parser {
     {
         tokens.skip(Kind::Changes)?;
         let table = table_name(self.alloc, tokens)?;
-        tokens.skip(Kind::Comma)?;
-        let since = value(self.alloc, tokens, self.depth)?;
-        tokens.skip(Kind::Close)?;
+        let table = then_skip(table, tokens, Kind::Comma)?;
+        let since = value(self.alloc, tokens, self.depth);
+        let changes = beside(table, since)?;
+        let (table, since) = then_skip(changes, tokens, Kind::Close)?;
         Ok(ChangeTable::Changes(table, since))
     }
 
@@ -166,7 +169,8 @@ impl Parser {
         tokens.skip(Kind::ChangeTable)?;
         tokens.skip(Kind::Open)?;
         let form = self.change_table(tokens)?;
-        let alias = alias(self.alloc, tokens)?;
+        let alias = alias(self.alloc, tokens);
+        let (form, alias) = beside(form, alias)?;
         Ok(source_of(form, alias))
     }
 
@@ -187,8 +191,9 @@ impl Parser {
     {
         let kind = self.join_kind(tokens)?;
         let source = self.source(tokens)?;
-        tokens.skip(Kind::On)?;
-        let condition = value(self.alloc, tokens, self.depth)?;
+        let source = then_skip(source, tokens, Kind::On)?;
+        let condition = value(self.alloc, tokens, self.depth);
+        let (source, condition) = beside(source, condition)?;
         Ok(JoinClause::On {
             kind,
             source,
@@ -232,7 +237,8 @@ impl Parser {
     {
         tokens.skip(Kind::From)?;
         let source = self.source(tokens)?;
-        let join = self.maybe_join(tokens)?;
+        let join = self.maybe_join(tokens);
+        let (source, join) = beside(source, join)?;
         Ok(FromClause { source, join })
     }
 

@@ -8,7 +8,7 @@ ghost use Rattle.ct_parser.specs.ReadStmt as spec;
 
 use crate::levels::Parser;
 use ct_grammar::{Cursor, Fault, Kind, read_many, table_name};
-use ct_parse_expr::{name_list, tuple, value, with_first};
+use ct_parse_expr::{beside, name_list, then_skip, tuple, value, with_first};
 use ct_types::{Expr, List, SetColumn, Stmt, TableSource, Text, WriteStmt};
 use sqlite_items::Items;
 
@@ -50,14 +50,18 @@ impl Parser {
         tokens.skip(Kind::Insert)?;
         tokens.skip_if(Kind::Into)?;
         let table = table_name(self.alloc, tokens)?;
-        let columns = self.maybe_names(tokens)?;
-        tokens.skip(Kind::Values)?;
-        let first = tuple(self.alloc, tokens, self.depth)?;
-        let more = self.more_tuples(tokens)?;
+        let columns = self.maybe_names(tokens);
+        let target = beside(table, columns)?;
+        let target = then_skip(target, tokens, Kind::Values)?;
+        let first = tuple(self.alloc, tokens, self.depth);
+        let held = beside(target, first)?;
+        let more = self.more_tuples(tokens);
+        let (((table, columns), first), more) = beside(held, more)?;
+        let tuples = with_first(first, more)?;
         Ok(WriteStmt::Insert {
             table,
             columns,
-            tuples: with_first(first, more)?,
+            tuples,
         })
     }
 
@@ -66,8 +70,9 @@ impl Parser {
         ensures { Reads (spec.set_column (exprs.expr self.now.depth) tokens.old) result tokens.new }
     {
         let column = tokens.name(self.alloc)?;
-        tokens.skip(Kind::Equal)?;
-        let value = value(self.alloc, tokens, self.depth)?;
+        let column = then_skip(column, tokens, Kind::Equal)?;
+        let value = value(self.alloc, tokens, self.depth);
+        let (column, value) = beside(column, value)?;
         Ok(SetColumn { column, value })
     }
 
@@ -115,14 +120,19 @@ impl Parser {
     {
         tokens.skip(Kind::Update)?;
         let table = table_name(self.alloc, tokens)?;
-        tokens.skip(Kind::Set)?;
-        let first = self.set_column(tokens)?;
-        let more = self.more_sets(tokens)?;
-        let from = self.maybe_from_table(tokens)?;
-        let condition = self.maybe_condition(tokens)?;
+        let table = then_skip(table, tokens, Kind::Set)?;
+        let first = self.set_column(tokens);
+        let held = beside(table, first)?;
+        let more = self.more_sets(tokens);
+        let ((table, first), more) = beside(held, more)?;
+        let sets = with_first(first, more)?;
+        let from = self.maybe_from_table(tokens);
+        let held = beside((table, sets), from)?;
+        let condition = self.maybe_condition(tokens);
+        let (((table, sets), from), condition) = beside(held, condition)?;
         Ok(WriteStmt::Update {
             table,
-            sets: with_first(first, more)?,
+            sets,
             from,
             condition,
         })
@@ -135,7 +145,8 @@ impl Parser {
         tokens.skip(Kind::Delete)?;
         tokens.skip_if(Kind::From)?;
         let table = table_name(self.alloc, tokens)?;
-        let condition = self.maybe_condition(tokens)?;
+        let condition = self.maybe_condition(tokens);
+        let (table, condition) = beside(table, condition)?;
         Ok(WriteStmt::Delete { table, condition })
     }
 
@@ -160,8 +171,7 @@ impl Parser {
         tokens.skip(Kind::ChangeTrackingContext)?;
         tokens.skip(Kind::Open)?;
         let context = value(self.alloc, tokens, self.depth)?;
-        tokens.skip(Kind::Close)?;
-        Ok(context)
+        then_skip(context, tokens, Kind::Close)
     }
 
     fn maybe_context(&self, tokens: &mut Cursor<'_>) -> Result<Option<Expr>, Fault>
@@ -180,7 +190,8 @@ impl Parser {
         ensures { Reads (spec.written (exprs.expr self.now.depth) tokens.old) result tokens.new }
     {
         let context = self.maybe_context(tokens)?;
-        let write = self.write(tokens)?;
+        let write = self.write(tokens);
+        let (context, write) = beside(context, write)?;
         Ok(Stmt::Write { context, write })
     }
 }
