@@ -222,7 +222,11 @@ fn decide_sentence(alloc: Global, db: &Database, statement: &Stmt) -> Result<Dec
 
 /// What a statement comes to in a database whose tables have at most 64 columns each.
 #[tactic(auto, unfolding(ct_machine::specs::Decide::decide))]
-pub(crate) fn decide_command(alloc: Global, db: &Database, what: &Command) -> Result<Decision, Memory>
+pub(crate) fn decide_command(
+    alloc: Global,
+    db: &Database,
+    what: &Command,
+) -> Result<Decision, Memory>
     requires { HasTables db.now }
     ensures is { IfOk result (λ made. made ≡ spec.decide db.now what.now) }
     ensures kept { IfOk result (DecisionIsKept db.now) }

@@ -66,7 +66,12 @@ fn since(value: &Value) -> Option<i64>
 }
 
 /// The rows that CHANGETABLE(CHANGES ..) shows of a table since the version that a value gives.
-fn changes_since(alloc: Global, db: &Database, table: u32, last: &Value) -> Result<List<Row>, Memory>
+fn changes_since(
+    alloc: Global,
+    db: &Database,
+    table: u32,
+    last: &Value,
+) -> Result<List<Row>, Memory>
     ensures { IfOk result (λ made. made ≡ map spec.shown (net_changes db.now table (spec.since_of last.now))) }
 {
     let changes = db.net(alloc, table, since(last))?;

@@ -114,7 +114,7 @@ fn read(alloc: Global, text: &str) -> Result<Stmt, Refusal> {
 fn bound(alloc: Global, keep: Option<Keep>, stmt: &Stmt) -> Result<Bound, Refusal> {
     let tables = catalogue(alloc)?;
     let names = variables(alloc)?;
-    bind(alloc, stmt, &tables, keep, &names)
+    bind(alloc, stmt, tables.as_slice(), keep, &names)
 }
 
 /// The word of a refusal with a name, and the name.

@@ -62,7 +62,7 @@ grown_push [] journal =
     let n : 1 + length journal ≡ length journal + 0 + 1 = omega arith in
     journal_grows (with_phase (grown [])) journal
     ∙ same_grows (text_from 1 journal) (text_from 1 journal ++ []) true _ (sum_by length (journal ∷ []) + 1) (list_any wants journal) (list_any wants (journal ++ []))
-      (sym (append-nil (text_from 1 journal))) (omega arith) (ap (list_any wants) (sym (append-nil journal)))
+    (sym (append-nil (text_from 1 journal))) (omega arith) (ap (list_any wants) (sym (append-nil journal)))
 grown_push (first ∷ journals) journal =
     let size = sum_by_push length (first ∷ journals) journal in
     journal_grows (with_phase (grown (first ∷ journals))) journal

@@ -11,9 +11,9 @@ use Rattle.ct_source.specs.Cells.{or_null, has_value}
 use Rattle.ct_expr.specs.Conditions.{only}
 use Rattle.ct_expr.specs.Environment.{Environment}
 use Rattle.ct_expr.specs.Meaning.{holds}
-use Rattle.ct_keyed.specs.Readings.{pinned}
-use Rattle.ct_keyed.specs.Seen.{Seen, nothing, Agrees}
-use Rattle.ct_keyed.proofs.Filtering.{pinned_over, pinned_rows}
+use Rattle.ct_scan.specs.Readings.{pinned}
+use Rattle.ct_scan.specs.Seen.{Seen, nothing, Agrees}
+use Rattle.ct_scan.proofs.Filtering.{pinned_over, pinned_rows}
 use Rattle.ct_scan.specs.Enough.{AreEnough, AreEnoughLefts, AreEnoughRights, pair_row}
 
 -- what is seen of a row that stands from a place on

@@ -6,7 +6,7 @@ use Rattle.ct_types.specs.declared.bound.BoundExpr.{BoundExpr}
 use Rattle.ct_types.specs.declared.value.Row.{Row}
 use Rattle.ct_types.specs.declared.value.Value.{Value}
 use Rattle.ct_expr.specs.Environment.{Environment}
-use Rattle.ct_keyed.specs.Readings.{pinned}
+use Rattle.ct_scan.specs.Readings.{pinned}
 
 -- the value that ON pins the column at a place of the left rows to, where this right row stands behind so many columns
 abbrev pub pin_of : Environment → BoundExpr → ℕ → ℕ → Row → Option Value

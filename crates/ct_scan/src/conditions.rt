@@ -5,8 +5,9 @@ ghost use Rattle.ct_scan.specs.Enough.{AreEnough};
 ghost use Rattle.ct_source.specs.Rows.{lent, GivesLent};
 ghost use Rattle.ct_source.specs.Sources.{source_rows};
 
+use crate::reading::pinned;
+use crate::seen::Seen;
 use ct_expr::{Env, Versions, holds};
-use ct_keyed::{Seen, pinned};
 use ct_source::{Source, Stored};
 use ct_types::{BoundExpr, List, Memory, Refusal, Row, push};
 use std::alloc::Global;

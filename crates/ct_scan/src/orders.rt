@@ -4,9 +4,10 @@ ghost use Rattle.ct_scan.specs.Steps as spec;
 ghost use Rattle.ct_source.specs.Sources.{source_rows};
 
 use crate::conditions::key_place;
+use crate::reading::pinned;
+use crate::seen::Seen;
 use ct_bind_names::place_after;
 use ct_expr::Env;
-use ct_keyed::{Seen, pinned};
 use ct_source::{Source, Stored};
 use ct_types::{BoundExpr, Memory, Row, Value, cmp_value};
 use std::alloc::Global;

@@ -4,9 +4,10 @@ ghost use Rattle.ct_source.specs.Rows.{lent};
 ghost use Rattle.ct_source.specs.Sources.{source_rows};
 
 use crate::conditions::key_place;
+use crate::reading::pinned;
+use crate::seen::Seen;
 use ct_bind_names::place_after;
 use ct_expr::Env;
-use ct_keyed::{Seen, pinned};
 use ct_source::{Source, Stored};
 use ct_types::{BoundExpr, List, Memory, Row};
 use std::alloc::Global;

@@ -68,7 +68,7 @@ fn writes_with(
 /// it; then all are fitted, row by row and column by column in the table's order. Columns that an INSERT does not name get
 /// NULL. The writes stand in key order, or in that of VALUES. Each has the context where the table is tracked, and an update
 /// of a table with masks the columns of the SET list. The values of its row fit their columns (`fit`), and the row has a
-/// value for each column and the write's key (`keyed`), since no SET list names a column of the key (`spares`).
+/// value for each column and the write's key, where no SET list names a column of the key (`keyed`).
 ///
 /// `Overflow` where a number of an expression does not fit 64 bits, or one of a row its INT column; `NotNull` for NULL in
 /// a column that is not nullable; `TooLong` for a context of more than 128 bytes, named `CHANGE_TRACKING_CONTEXT`, and
@@ -84,11 +84,10 @@ pub fn writes<L: Versions>(
     env: &Env<'_>,
     versions: &L,
 ) -> Result<List<Write>, Refusal>
-    requires ids { spec.NamesIds bound.now.change }
-    requires spares { spec.SparesKey table.now.schema bound.now.change }
+    requires { spec.NamesIds bound.now.change }
     ensures gives { Gives (spec.writes_of (record { env = env.now; versions = L.row_of versions.now }) (catalogued table.now) bound.now table.now.rows) result }
     ensures fit { IfOk result (λ made. AllByRecursion (λ write. IsFit table.now.schema.columns write.row) made) }
-    ensures keyed { IfOk result (λ made. AllByRecursion (λ write. IfSome write.row (IsRowOf table.now.schema write.key)) made) }
+    ensures keyed { spec.SparesKey table.now.schema bound.now.change → IfOk result (λ made. AllByRecursion (λ write. IfSome write.row (IsRowOf table.now.schema write.key)) made) }
 {
     table.rows_rise();
     let context = context_of(alloc, &bound.context, env, versions)?;

@@ -1,7 +1,7 @@
 use Rattle.std.proofs.Common.{◌≡◌, Some, sym, ap, ◌∙◌}
 use Rattle.std.proofs.lemmas.Result.{IfOk-weaker}
-use Rattle.ct_keyed.specs.Readings.{pinned}
-use Rattle.ct_keyed.specs.Seen.{Seen, nothing}
+use Rattle.ct_scan.specs.Readings.{pinned}
+use Rattle.ct_scan.specs.Seen.{Seen, nothing}
 use Rattle.ct_scan.proofs.Candidates.{pinned_are_enough}
 use Rattle.ct_scan.proofs.conditions.rows_at.Goals as goal
 

@@ -1,7 +1,7 @@
 use Rattle.std.proofs.Common.{◌≡◌, ◌+◌, length, Some, sym, ap, ◌∙◌, arith}
 use Rattle.std.proofs.lemmas.Result.{IfOk-weaker}
-use Rattle.ct_keyed.specs.Readings.{pinned}
-use Rattle.ct_keyed.specs.Seen.{Seen}
+use Rattle.ct_scan.specs.Readings.{pinned}
+use Rattle.ct_scan.specs.Seen.{Seen}
 use Rattle.ct_scan.proofs.Candidates.{seen_from, pinned_are_rights}
 use Rattle.ct_scan.proofs.partners.rights_at.Goals as goal
 

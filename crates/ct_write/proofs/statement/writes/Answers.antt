@@ -13,7 +13,7 @@ returns-in_err-fit_all g c =
     (record {
       gives = refused_fit _ _ _ _ c.in_ok-context.context c.in_ok-changes.changes _ _ _ c.in_ok-context.ensures c.in_ok-changes.ensures (c.as_slice.ensures ∙ ap (λ (schema : Schema). schema.columns) c.schema.ensures) c.as_slice-2.ensures c.in_err-fit_all.ensures.gives;
       fit = tt;
-      keyed = tt;
+      keyed = λ spares. tt;
     })
 
 pub returns-clause-fit : goal.returns-clause-fit
@@ -21,6 +21,6 @@ returns-clause-fit g c =
     writes_fit (catalogued c.args.table.now) c.args.bound.now.change _ c.in_ok-changes.changes _ _ _ (c.as_slice.ensures ∙ ap (λ (schema : Schema). schema.columns) c.schema.ensures) c.as_slice-2.ensures c.in_ok-fit_all.ensures.fits c.in_ok-writes_with.ensures
 
 pub returns-clause-keyed : goal.returns-clause-keyed
-returns-clause-keyed g c =
+returns-clause-keyed g c = λ spares.
     writes_stand (record { env = c.args.env.now; versions = g.L.Versions.row_of c.args.versions.now }) (catalogued c.args.table.now) c.args.bound.now.change _ c.args.table.now.rows c.in_ok-changes.changes _
-    c.rows_rise.ensures.columns c.requires.spares c.rows_rise.ensures.whole c.in_ok-changes.ensures c.in_ok-writes_with.ensures
+    c.rows_rise.ensures.columns spares c.rows_rise.ensures.whole c.in_ok-changes.ensures c.in_ok-writes_with.ensures

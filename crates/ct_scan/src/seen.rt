@@ -1,5 +1,5 @@
 ghost use Rattle.std.specs.Prelude.{◌≡◌, IfOk};
-ghost use Rattle.ct_keyed.specs.Seen as spec;
+ghost use Rattle.ct_scan.specs.Seen as spec;
 
 use ct_types::{Copies, Memory, Row, Value};
 use std::alloc::Global;
@@ -13,7 +13,7 @@ pub struct Seen<'a> {
 }
 
 impl<'a> Model for Seen<'a> {
-    ghost use Rattle.ct_keyed.specs.Seen as spec;
+    ghost use Rattle.ct_scan.specs.Seen as spec;
 
     ghost Value = { spec.Seen };
 

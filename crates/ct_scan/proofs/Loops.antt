@@ -3,7 +3,7 @@ use Rattle.std.proofs.Common.{◌≡◌, ℕ, suc, ◌+◌, ◌<◌, ◌≤◌, 
 use Rattle.std.proofs.lemmas.List.{drop_all}
 use Rattle.std.specs.Option.{option_or}
 use Rattle.ct_types.specs.declared.value.Value.{Value}
-use Rattle.ct_keyed.specs.Readings.{Reading, all_quiet, first_pin}
+use Rattle.ct_scan.specs.Readings.{Reading, all_quiet, first_pin}
 
 front : {X : Type 0} (all : List X) (i : ℕ) (x : X) → i < length all → x ≡ get_or all i x → drop i all ≡ x ∷ drop (i + 1) all
 front all i x within is = drop-cons all i x within ∙ (ap (λ y. y ∷ drop (suc i) all) (sym is) ∙ ap (λ k. x ∷ drop k all) (let next : suc i ≡ i + 1 = omega arith in next))

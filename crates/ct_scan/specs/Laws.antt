@@ -7,8 +7,8 @@ use Rattle.ct_types.specs.declared.value.Value.{Value}
 use Rattle.ct_source.specs.Cells.{has_value}
 use Rattle.ct_expr.specs.Conditions.{only}
 use Rattle.ct_expr.specs.Meaning.{World, holds}
-use Rattle.ct_keyed.specs.Seen.{Seen, nothing, Agrees}
-use Rattle.ct_keyed.specs.Readings.{pinned}
+use Rattle.ct_scan.specs.Seen.{Seen, nothing, Agrees}
+use Rattle.ct_scan.specs.Readings.{pinned}
 
 -- WHERE over rows is WHERE over those with the value that it pins a column to: the same rows, and the same refusal
 abbrev pub PinnedRows : Type 0

@@ -9,11 +9,11 @@ use Rattle.ct_types.proofs.Lists.{all_everywhere}
 use Rattle.ct_source.specs.Cells.{has_value}
 use Rattle.ct_expr.specs.Conditions.{only}
 use Rattle.ct_expr.specs.Meaning.{World, on, meaning, holds}
-use Rattle.ct_keyed.specs.Laws.{PinnedOver, PinnedRows}
-use Rattle.ct_keyed.specs.Readings.{Reading, reading, pinned, pin_of}
-use Rattle.ct_keyed.specs.Seen.{Seen, nothing, Agrees}
-use Rattle.ct_keyed.proofs.Holding.{IsOf, every}
-use Rattle.ct_keyed.proofs.Steps.{not_true}
+use Rattle.ct_scan.specs.Laws.{PinnedOver, PinnedRows}
+use Rattle.ct_scan.specs.Readings.{Reading, reading, pinned, pin_of}
+use Rattle.ct_scan.specs.Seen.{Seen, nothing, Agrees}
+use Rattle.ct_scan.proofs.Holding.{IsOf, every}
+use Rattle.ct_scan.proofs.Steps.{not_true}
 
 -- ---- a test that is false of all that another test leaves out
 

@@ -1,4 +1,4 @@
-ghost use Rattle.ct_keyed.specs.Laws.{PinnedOver, PinnedRows};
+ghost use Rattle.ct_scan.specs.Laws.{PinnedOver, PinnedRows};
 
 /// WHERE that pins a column keeps of some rows what it keeps of those with the pinned value, and refuses where it does on these.
 #[tactic(auto, using(crate::proofs::Filtering::pinned_rows))]

@@ -17,7 +17,7 @@ use Rattle.ct_types.specs.declared.value.Value.TheVariants as v
 use Rattle.ct_expr.specs.Environment.{Environment}
 use Rattle.ct_expr.specs.Functions.{or_null, counted_or_null}
 use Rattle.ct_expr.specs.Numbers.{negative}
-use Rattle.ct_keyed.specs.Seen.{Seen, value_at}
+use Rattle.ct_scan.specs.Seen.{Seen, value_at}
 
 pub record Reading : Type 0 where
   -- it comes to a value and a truth on every row

@@ -1,5 +1,5 @@
 ghost use Rattle.std.specs.Prelude.{◌≡◌, IfOk, map};
-ghost use Rattle.ct_keyed.specs.Readings as spec;
+ghost use Rattle.ct_scan.specs.Readings as spec;
 
 use crate::Seen;
 use ct_expr::{Env, counted_or_null, negative, variable_at};

@@ -26,10 +26,10 @@ use Rattle.ct_expr.specs.Logic.{Truth}
 use Rattle.ct_expr.specs.Meaning.{Scene, Meaning, Operand, chain, conjoined, disjoined, listed, of_two, meaning_rule, row_version_rule, scalar_rule, operand_rule, meaning, row_version, scalar, operand}
 use Rattle.ct_expr.specs.Numbers.{negative, compare}
 use Rattle.ct_source.specs.Cells as cells
-use Rattle.ct_keyed.specs.Seen.{Seen, value_at, Agrees}
-use Rattle.ct_keyed.specs.Readings as r
-use Rattle.ct_keyed.specs.Readings.{Reading, Form, negated, all_quiet, pinned_by, first_pin, pins_rule, reading_rule, version_rule, term_rule, reading, version_quiet, scalar_quiet, of_term}
-use Rattle.ct_keyed.proofs.Steps.{comes_one, comes_then, first_true, rest_true, equal_values, equal_turned}
+use Rattle.ct_scan.specs.Seen.{Seen, value_at, Agrees}
+use Rattle.ct_scan.specs.Readings as r
+use Rattle.ct_scan.specs.Readings.{Reading, Form, negated, all_quiet, pinned_by, first_pin, pins_rule, reading_rule, version_rule, term_rule, reading, version_quiet, scalar_quiet, of_term}
+use Rattle.ct_scan.proofs.Steps.{comes_one, comes_then, first_true, rest_true, equal_values, equal_turned}
 
 -- a cell is what an expression's column comes to
 pub same_null : (found : Option Value) → or_null found ≡ cells.or_null found

@@ -1,4 +1,0 @@
-pub mod Steps
-pub mod Holding
-pub mod Filtering
-pub mod Loops
