@@ -1,14 +1,17 @@
-ghost use Rattle.std.specs.Prelude.{◌≤◌, IfOk};
+ghost use Rattle.std.specs.Prelude.{◌≡◌, ◌≤◌, ◌∷◌, [], IfOk, length};
 ghost use Rattle.std.specs.List.{All};
 ghost use Rattle.ct_mask.specs.Masks.{IsId};
+ghost use Rattle.ct_source.specs.Rows.{HasKeyColumns};
 ghost use Rattle.ct_write.specs.Rows.{set_columns};
 ghost use Rattle.ct_write.specs.Writes.{NamesIds};
 
 use ct_expr::{Env, Versions};
+use ct_model::key_of_row;
+use ct_source::Stored;
 use ct_types::{
-    Bin, BoundExpr, BoundSet, BoundWrite, Catalogued, ColType, Column, Comparison, Key, List,
-    Memory, Misfit, Op, Refusal, Row, RowChange, Schema, Text, Tracked, Value, Variables,
-    VersionRow, Write,
+    Bin, BoundExpr, BoundSet, BoundWrite, ColType, Column, Comparison, Copies, Key, List, Memory,
+    Misfit, Op, Refusal, Row, RowChange, Schema, Text, Tracked, Value, Variables, VersionRow,
+    Write,
 };
 use ct_write::{duplicate, writes};
 use sqlite_items::{Boxed, Items};
@@ -63,11 +66,25 @@ fn ids(alloc: Global, last: u16) -> Result<List<u16>, Memory> {
     Ok(ids)
 }
 
+/// The first column as the key, which has to be there.
+fn first_column(alloc: Global, columns: &List<Column>) -> Result<List<u16>, Memory>
+    ensures { IfOk result (λ key. (key ≡ 1 ∷ []) × (1 ≤ length columns.now)) }
+{
+    if columns.as_slice().is_empty() {
+        return Err(Memory);
+    }
+    let mut key = List::new(alloc);
+    key.push(1)?;
+    Ok(key)
+}
+
 /// `CREATE TABLE t (id INT PRIMARY KEY, a INT, b ..)`
-fn schema(alloc: Global, last: ColType) -> Result<Schema, Memory> {
+fn schema(alloc: Global, last: ColType) -> Result<Schema, Memory>
+    ensures { IfOk result HasKeyColumns }
+{
     let name = Text::of(alloc, "t")?;
     let columns = columns(alloc, last)?;
-    let key = ids(alloc, 1)?;
+    let key = first_column(alloc, &columns)?;
     Ok(Schema {
         id: 1,
         name,
@@ -76,15 +93,26 @@ fn schema(alloc: Global, last: ColType) -> Result<Schema, Memory> {
     })
 }
 
-/// The table, tracked with masks.
-fn table(alloc: Global, last: ColType) -> Result<Catalogued, Memory> {
-    Ok(Catalogued {
-        schema: schema(alloc, last)?,
-        tracked: Some(Tracked {
-            min: 0,
-            masks: true,
-        }),
-    })
+/// Puts a row, which has a value for each column, at its key.
+fn put(alloc: Global, table: &mut Stored, row: &Row) -> Result<(), Memory> {
+    if row.0.as_slice().len() != table.schema().columns.as_slice().len() {
+        return Err(Memory);
+    }
+    let key = key_of_row(alloc, table.schema(), row)?;
+    table.put(key, row.copy(alloc)?)
+}
+
+/// The table with these rows, tracked with masks.
+fn table(alloc: Global, last: ColType, rows: &[Row]) -> Result<Stored, Memory> {
+    let mut table = Stored::new(alloc, schema(alloc, last)?)?;
+    table.set_tracked(Some(Tracked {
+        min: 0,
+        masks: true,
+    }));
+    for row in rows {
+        put(alloc, &mut table, row)?;
+    }
+    Ok(table)
 }
 
 fn number(n: Option<i64>) -> Value {
@@ -114,18 +142,13 @@ fn rows(alloc: Global, numbers: &[Option<i64>]) -> Result<List<Row>, Memory> {
     Ok(rows)
 }
 
-/// What a statement writes on a table and these rows.
-fn written_on(
-    alloc: Global,
-    bound: &BoundWrite,
-    table: &Catalogued,
-    rows: &[Row],
-) -> Result<List<Write>, Refusal>
+/// What a statement writes on a table.
+fn written_on(alloc: Global, bound: &BoundWrite, table: &Stored) -> Result<List<Write>, Refusal>
     requires { NamesIds bound.now.change }
 {
     let variables = Variables(List::new(alloc));
     let env = empty_env(&variables);
-    writes(alloc, bound, table, rows, &env, &Unchanged)
+    writes(alloc, bound, table, &env, &Unchanged)
 }
 
 /// What a statement writes on the rows with these numbers in `a`.
@@ -137,9 +160,9 @@ fn written(
 ) -> Result<List<Write>, Refusal>
     requires { NamesIds bound.now.change }
 {
-    let table = table(alloc, last)?;
     let rows = rows(alloc, numbers)?;
-    written_on(alloc, bound, &table, rows.as_slice())
+    let table = table(alloc, last, rows.as_slice())?;
+    written_on(alloc, bound, &table)
 }
 
 /// A tuple of VALUES: a number or NULL, a number with a sign before it, and a text.
@@ -279,9 +302,9 @@ fn insert_keys(alloc: Global, keys: &[i64]) -> Result<BoundWrite, Memory>
 }
 
 fn place_in(alloc: Global, made: &[Write]) -> Result<Option<usize>, Memory> {
-    let schema = schema(alloc, ColType::Int)?;
     let rows = rows(alloc, &[None])?;
-    Ok(duplicate(made, rows.as_slice(), &schema))
+    let table = table(alloc, ColType::Int, rows.as_slice())?;
+    Ok(duplicate(made, &table))
 }
 
 fn inserted_keys(alloc: Global, keys: &[i64]) -> Result<List<Write>, Refusal> {
@@ -408,6 +431,26 @@ fn deleted(alloc: Global) -> Result<List<Write>, Refusal> {
     )
 }
 
+/// `DELETE t WHERE id = 3`
+fn delete_by_key(alloc: Global) -> Result<BoundWrite, Memory>
+    ensures { IfOk result (λ bound. NamesIds bound.change) }
+{
+    let id = Boxed::new(alloc, BoundExpr::Column(0))?;
+    let three = Boxed::new(alloc, BoundExpr::Number(3))?;
+    let filter = Some(BoundExpr::Compare(Comparison::Equal, id, three));
+    Ok(BoundWrite {
+        table: 1,
+        context: None,
+        change: RowChange::Delete { filter },
+    })
+}
+
+fn deleted_by_key(alloc: Global) -> Result<List<Write>, Refusal> {
+    let bound = delete_by_key(alloc)?;
+    let numbers = [Some(10), None, Some(20), Some(10)];
+    written(alloc, &bound, ColType::Int, &numbers)
+}
+
 fn key(alloc: Global, id: i64) -> Result<Key, Memory> {
     let mut values = List::new(alloc);
     values.push(Value::Int(id))?;
@@ -422,6 +465,17 @@ fn deletes_where_it_is_true(rt: HostRuntime) -> Result<(), Fail> {
     for (write, id) in made.as_slice().iter().zip([1, 4]) {
         assert!(rt; write.key == key(alloc, id)? && write.row.is_none());
         assert!(rt; write.op == Op::Delete && write.mask == 0);
+    }
+    Ok(())
+}
+
+#[test]
+fn deletes_the_row_of_a_key(rt: HostRuntime) -> Result<(), Fail> {
+    let alloc = rt.alloc();
+    let made = deleted_by_key(alloc)?;
+    assert_eq!(rt; made.as_slice().len(), 1);
+    for write in made.as_slice() {
+        assert!(rt; write.key == key(alloc, 3)? && write.row.is_none());
     }
     Ok(())
 }
