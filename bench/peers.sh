@@ -101,10 +101,9 @@ QUERIES = [
     ("RIGHT JOIN with 10 changes", "SELECT t.a, ct.id FROM t RIGHT OUTER JOIN CHANGETABLE(CHANGES t, {since}) AS ct ON t.id = ct.id", 3),
     ("INNER JOIN with 10 changes", "SELECT t.a, ct.id FROM CHANGETABLE(CHANGES t, {since}) AS ct INNER JOIN t ON t.id = ct.id", 3),
     ("LEFT JOIN with 10 changes", "SELECT t.a, ct.id FROM CHANGETABLE(CHANGES t, {since}) AS ct LEFT OUTER JOIN t ON t.id = ct.id", 3),
-    ("SELECT by key", "SELECT a FROM t WHERE id = 7", 2),
 ]
 for name, query, bar in QUERIES:
-    small, large = (query_micros("query", rows, query, 2_000) for rows in (2_000, 20_000))
+    small, large = (query_micros("query", rows, query, 20_000) for rows in (2_000, 20_000))
     print(f"{name}: {small:.1f} us at 2,000 rows, {large:.1f} at 20,000: {large / small:.2f} times (bar {bar})")
 
 empty = resident(ct_file("ct", []))
