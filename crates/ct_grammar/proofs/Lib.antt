@@ -1,4 +1,6 @@
 pub mod Spans
+pub mod Lengths
+pub mod Told
 pub mod Pairs
 pub mod Turns
 pub mod FirstSets

@@ -1,5 +1,7 @@
 pub mod Kinds
+pub mod Lengths
 pub mod Lexemes
+pub mod Told
 pub mod Words
 pub mod Rules
 pub mod Reading

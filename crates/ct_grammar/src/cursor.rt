@@ -1,16 +1,14 @@
-ghost use Rattle.std.specs.Prelude.{◌≡◌, ◌∷◌, [], ◌≤◌, ◌<◌, length, slice_range, IfOk, IfErr, Err, Ok};
+ghost use Rattle.std.specs.Prelude.{◌≡◌, ◌∷◌, [], ◌<◌, length, Err, Ok};
 ghost use Rattle.ct_grammar.specs.Kinds as kinds;
+ghost use Rattle.ct_grammar.specs.Told.{AllCut, told};
 ghost use Rattle.ct_grammar.specs.Lexemes as spec;
-ghost use Rattle.ct_grammar.specs.Lexemes.{Ends};
-ghost use Rattle.ct_lexer.specs.Spans.{AllFit, Fits};
 ghost use Rattle.ct_grammar.specs.Reading as reading;
 ghost use Rattle.ct_grammar.specs.Reading.{Reads};
 ghost use Rattle.ct_grammar.specs.declared.fault.Fault.TheVariants.{Syntax};
 
-use crate::kind::kind_of;
+use crate::kinded::word_of;
 use crate::words::{bytes_in, name_in, text_in};
-use crate::{Fault, Kind};
-use ct_lexer::Token;
+use crate::{Fault, Kind, Kinded};
 use ct_types::{Bin, Text};
 use std::alloc::Global;
 use std::marker::Model;
@@ -61,7 +59,7 @@ pub const NUMBERS: &[Kind] = &[Kind::Number, Kind::Zero];
 #[derive(Drop)]
 pub struct Cursor<'a> {
     text: &'a str,
-    tokens: &'a [Token],
+    tokens: &'a [Kinded],
 }
 
 impl<'a> Model for Cursor<'a> {
@@ -95,75 +93,17 @@ fn same(a: Kind, b: Kind) -> bool
     a == b
 }
 
-fn word_of(text: &str, token: Token) -> &str
-    requires { Fits text.now token }
-    ensures value { result.now ≡ slice_range text.now token.from token.to }
-    ensures ends { Ends result.now }
-{
-    &text[token.from as usize..token.to as usize]
-}
-
-fn kind_at(text: &str, token: Token) -> Kind
-    requires { Fits text.now token }
-    ensures { result ≡ (spec.lexeme text.now token).kind }
-{
-    kind_of(token.kind, word_of(text, token))
-}
-
-/// Whether the first token is of this set.
-#[tactic(auto, unfolding(crate::specs::Lexemes::sees))]
-fn begins(text: &str, tokens: &[Token], set: &[Kind]) -> bool
-    requires { AllFit text.now tokens.now }
-    ensures { result ≡ spec.sees set.now (spec.lexemes text.now tokens.now) }
-{
-    match tokens {
-        [] => false,
-        [first, ..] => has(set, kind_at(text, *first)),
-    }
-}
-
-/// Whether the first two are of these sets.
-#[tactic(auto, unfolding(crate::specs::Lexemes::matches))]
-fn begins_two(text: &str, tokens: &[Token], one: &[Kind], two: &[Kind]) -> bool
-    requires { AllFit text.now tokens.now }
-    ensures { result ≡ spec.matches (one.now ∷ two.now ∷ []) (spec.lexemes text.now tokens.now) }
-{
-    match tokens {
-        [] => false,
-        [_] => false,
-        [a, b, ..] => has(one, kind_at(text, *a)) && has(two, kind_at(text, *b)),
-    }
-}
-
-/// Whether the first three are of these sets.
-#[tactic(auto, unfolding(crate::specs::Lexemes::matches))]
-fn begins_three(text: &str, tokens: &[Token], one: &[Kind], two: &[Kind], three: &[Kind]) -> bool
-    requires { AllFit text.now tokens.now }
-    ensures { result ≡ spec.matches (one.now ∷ two.now ∷ three.now ∷ []) (spec.lexemes text.now tokens.now) }
-{
-    match tokens {
-        [] => false,
-        [_] => false,
-        [_, _] => false,
-        [a, b, c, ..] => {
-            has(one, kind_at(text, *a))
-                && has(two, kind_at(text, *b))
-                && has(three, kind_at(text, *c))
-        }
-    }
-}
-
 impl<'a> Cursor<'a> {
     /// Begins at the first of the tokens.
-    pub fn new(text: &'a str, tokens: &'a [Token]) -> Cursor<'a>
-        requires { AllFit text.now tokens.now }
-        ensures { result ≡ spec.lexemes text.now tokens.now }
+    pub fn new(text: &'a str, tokens: &'a [Kinded]) -> Cursor<'a>
+        requires { AllCut text.now tokens.now }
+        ensures { result ≡ told text.now tokens.now }
     {
         Cursor { text, tokens }
     }
 
     /// How many tokens are left.
-    #[tactic(auto, using(crate::proofs::Spans::length_lexemes))]
+    #[tactic(auto, using(crate::proofs::Told::length_told))]
     pub fn left(&self) -> usize
         ensures { result ≡ length self.now }
     {
@@ -171,7 +111,7 @@ impl<'a> Cursor<'a> {
     }
 
     /// The fault at the next token, or at the end.
-    #[tactic(auto, using(crate::proofs::Spans::length_lexemes))]
+    #[tactic(auto, using(crate::proofs::Told::length_told))]
     pub fn refuse(&self) -> Fault
         ensures { result ≡ Syntax (length self.now) }
     {
@@ -179,24 +119,39 @@ impl<'a> Cursor<'a> {
     }
 
     /// Whether the next token is of this set.
+    #[tactic(auto, unfolding(crate::specs::Lexemes::sees))]
     pub fn sees(&self, set: &[Kind]) -> bool
         ensures { result ≡ spec.sees set.now self.now }
     {
-        begins(self.text, self.tokens, set)
+        match self.tokens {
+            [] => false,
+            [first, ..] => has(set, first.kind),
+        }
     }
 
     /// Whether the next two are of these sets.
+    #[tactic(auto, unfolding(crate::specs::Lexemes::matches))]
     pub fn sees_two(&self, one: &[Kind], two: &[Kind]) -> bool
         ensures { result ≡ spec.matches (one.now ∷ two.now ∷ []) self.now }
     {
-        begins_two(self.text, self.tokens, one, two)
+        match self.tokens {
+            [] => false,
+            [_] => false,
+            [a, b, ..] => has(one, a.kind) && has(two, b.kind),
+        }
     }
 
     /// Whether the next three are of these sets.
+    #[tactic(auto, unfolding(crate::specs::Lexemes::matches))]
     pub fn sees_three(&self, one: &[Kind], two: &[Kind], three: &[Kind]) -> bool
         ensures { result ≡ spec.matches (one.now ∷ two.now ∷ three.now ∷ []) self.now }
     {
-        begins_three(self.text, self.tokens, one, two, three)
+        match self.tokens {
+            [] => false,
+            [_] => false,
+            [_, _] => false,
+            [a, b, c, ..] => has(one, a.kind) && has(two, b.kind) && has(three, c.kind),
+        }
     }
 
     /// Takes the next token, which has to be of this kind.
@@ -205,7 +160,7 @@ impl<'a> Cursor<'a> {
         ensures { Reads (reading.need kind self.old) result self.new }
     {
         match self.tokens {
-            [first, rest @ ..] if has(&[kind], kind_at(self.text, *first)) => {
+            [first, rest @ ..] if has(&[kind], first.kind) => {
                 self.tokens = rest;
                 Ok(())
             }
@@ -219,8 +174,8 @@ impl<'a> Cursor<'a> {
         ensures { Reads (reading.kind set.now self.old) result self.new }
     {
         match self.tokens {
-            [first, rest @ ..] if has(set, kind_at(self.text, *first)) => {
-                let kind = kind_at(self.text, *first);
+            [first, rest @ ..] if has(set, first.kind) => {
+                let kind = first.kind;
                 self.tokens = rest;
                 Ok(kind)
             }
@@ -234,7 +189,7 @@ impl<'a> Cursor<'a> {
         ensures { reading.option (kind ∷ []) (reading.need kind) self.old ≡ Ok (result, self.new) }
     {
         match self.tokens {
-            [first, rest @ ..] if has(&[kind], kind_at(self.text, *first)) => {
+            [first, rest @ ..] if has(&[kind], first.kind) => {
                 self.tokens = rest;
                 Some(())
             }
@@ -259,9 +214,9 @@ impl<'a> Cursor<'a> {
         ensures { Reads (reading.name self.old) result self.new }
     {
         match self.tokens {
-            [first, rest @ ..] if has(NAMES, kind_at(self.text, *first)) => {
-                let word = word_of(self.text, *first);
-                let value = Text::of(alloc, name_in(kind_of(first.kind, word), word))?;
+            [first, rest @ ..] if has(NAMES, first.kind) => {
+                let word = word_of(self.text, first.token);
+                let value = Text::of(alloc, name_in(first.kind, word))?;
                 self.tokens = rest;
                 Ok(value)
             }
@@ -275,8 +230,8 @@ impl<'a> Cursor<'a> {
         ensures { Reads (reading.number self.old) result self.new }
     {
         match self.tokens {
-            [first, rest @ ..] if has(NUMBERS, kind_at(self.text, *first)) => {
-                let word = word_of(self.text, *first);
+            [first, rest @ ..] if has(NUMBERS, first.kind) => {
+                let word = word_of(self.text, first.token);
                 let value = Text::of(alloc, word)?;
                 self.tokens = rest;
                 Ok(value)
@@ -291,8 +246,8 @@ impl<'a> Cursor<'a> {
         ensures { Reads (reading.variable self.old) result self.new }
     {
         match self.tokens {
-            [first, rest @ ..] if has(&[Kind::Variable], kind_at(self.text, *first)) => {
-                let word = word_of(self.text, *first);
+            [first, rest @ ..] if has(&[Kind::Variable], first.kind) => {
+                let word = word_of(self.text, first.token);
                 let value = Text::of(alloc, word)?;
                 self.tokens = rest;
                 Ok(value)
@@ -307,8 +262,8 @@ impl<'a> Cursor<'a> {
         ensures { Reads (reading.text self.old) result self.new }
     {
         match self.tokens {
-            [first, rest @ ..] if has(&[Kind::Text], kind_at(self.text, *first)) => {
-                let word = word_of(self.text, *first);
+            [first, rest @ ..] if has(&[Kind::Text], first.kind) => {
+                let word = word_of(self.text, first.token);
                 let value = text_in(alloc, word)?;
                 self.tokens = rest;
                 Ok(value)
@@ -323,8 +278,8 @@ impl<'a> Cursor<'a> {
         ensures { Reads (reading.bytes self.old) result self.new }
     {
         match self.tokens {
-            [first, rest @ ..] if has(&[Kind::Bytes], kind_at(self.text, *first)) => {
-                let word = word_of(self.text, *first);
+            [first, rest @ ..] if has(&[Kind::Bytes], first.kind) => {
+                let word = word_of(self.text, first.token);
                 let value = bytes_in(alloc, word)?;
                 self.tokens = rest;
                 Ok(value)

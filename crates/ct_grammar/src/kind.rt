@@ -1,5 +1,7 @@
-ghost use Rattle.std.specs.Prelude.{◌≡◌};
+ghost use Rattle.std.specs.Prelude.{◌≡◌, ◌++◌};
+ghost use Rattle.std.specs.List.{filter};
 ghost use Rattle.ct_grammar.specs.Kinds as spec;
+ghost use Rattle.ct_grammar.specs.Lengths.{is_spelled_in};
 
 use ct_lexer::TokenKind;
 
@@ -130,103 +132,6 @@ pub enum Kind {
     Other,
 }
 
-/// The words of the rules.
-const WORDS: &[Kind] = &[
-    Kind::Alter,
-    Kind::And,
-    Kind::As,
-    Kind::Asc,
-    Kind::Begin,
-    Kind::By,
-    Kind::Commit,
-    Kind::Constraint,
-    Kind::Create,
-    Kind::Cross,
-    Kind::Database,
-    Kind::Declare,
-    Kind::Delete,
-    Kind::Desc,
-    Kind::From,
-    Kind::Inner,
-    Kind::Insert,
-    Kind::Into,
-    Kind::Is,
-    Kind::Join,
-    Kind::Key,
-    Kind::Left,
-    Kind::Not,
-    Kind::Null,
-    Kind::On,
-    Kind::Or,
-    Kind::Order,
-    Kind::Outer,
-    Kind::Primary,
-    Kind::Right,
-    Kind::Rollback,
-    Kind::Select,
-    Kind::Set,
-    Kind::Table,
-    Kind::Tran,
-    Kind::Transaction,
-    Kind::Truncate,
-    Kind::Update,
-    Kind::Values,
-    Kind::Where,
-    Kind::With,
-    Kind::AllowSnapshotIsolation,
-    Kind::Apply,
-    Kind::AutoCleanup,
-    Kind::BigInt,
-    Kind::Changes,
-    Kind::ChangeTable,
-    Kind::ChangeRetention,
-    Kind::ChangeTracking,
-    Kind::ChangeTrackingContext,
-    Kind::Committed,
-    Kind::Days,
-    Kind::Disable,
-    Kind::Enable,
-    Kind::Hours,
-    Kind::Int,
-    Kind::Isolation,
-    Kind::Level,
-    Kind::LockTimeout,
-    Kind::Minutes,
-    Kind::NVarChar,
-    Kind::Off,
-    Kind::Read,
-    Kind::ReadCommittedSnapshot,
-    Kind::Snapshot,
-    Kind::TrackColumnsUpdated,
-    Kind::VarBinary,
-    Kind::Version,
-    Kind::CurrentVersion,
-    Kind::MinValidVersion,
-    Kind::IsColumnInMask,
-    Kind::ObjectId,
-    Kind::ColumnProperty,
-    Kind::IsNull,
-];
-
-/// The signs of the rules.
-const SIGNS: &[Kind] = &[
-    Kind::Different,
-    Kind::Unlike,
-    Kind::AtMost,
-    Kind::AtLeast,
-    Kind::Open,
-    Kind::Close,
-    Kind::Comma,
-    Kind::Dot,
-    Kind::Semicolon,
-    Kind::Equal,
-    Kind::Less,
-    Kind::More,
-    Kind::Plus,
-    Kind::Minus,
-    Kind::Star,
-];
-
 impl Kind {
     /// How a word or a sign of the rules is spelled, and nothing for what has many spellings.
     #[tactic(auto, unfolding(crate::specs::Kinds::spelling))]
@@ -349,17 +254,147 @@ fn kind_in(kinds: &[Kind], word: &str, otherwise: Kind) -> Kind
     otherwise
 }
 
+// The words of the rules, by how many bytes they have.
+const OF_THREE: &[Kind] = &[
+    Kind::And,
+    Kind::Asc,
+    Kind::Key,
+    Kind::Not,
+    Kind::Set,
+    Kind::Int,
+    Kind::Off,
+];
+
+const OF_FOUR: &[Kind] = &[
+    Kind::Desc,
+    Kind::From,
+    Kind::Into,
+    Kind::Join,
+    Kind::Left,
+    Kind::Null,
+    Kind::Tran,
+    Kind::With,
+    Kind::Days,
+    Kind::Read,
+];
+
+const OF_FIVE: &[Kind] = &[
+    Kind::Alter,
+    Kind::Begin,
+    Kind::Cross,
+    Kind::Inner,
+    Kind::Order,
+    Kind::Outer,
+    Kind::Right,
+    Kind::Table,
+    Kind::Where,
+    Kind::Apply,
+    Kind::Hours,
+    Kind::Level,
+];
+
+const OF_SIX: &[Kind] = &[
+    Kind::Commit,
+    Kind::Create,
+    Kind::Delete,
+    Kind::Insert,
+    Kind::Select,
+    Kind::Update,
+    Kind::Values,
+    Kind::BigInt,
+    Kind::Enable,
+    Kind::IsNull,
+];
+
+const OF_SEVEN: &[Kind] = &[
+    Kind::Declare,
+    Kind::Primary,
+    Kind::Changes,
+    Kind::Disable,
+    Kind::Minutes,
+    Kind::Version,
+];
+
+const OF_EIGHT: &[Kind] = &[
+    Kind::Database,
+    Kind::Rollback,
+    Kind::Truncate,
+    Kind::NVarChar,
+    Kind::Snapshot,
+];
+
+const OF_NINE: &[Kind] = &[
+    Kind::Committed,
+    Kind::Isolation,
+    Kind::VarBinary,
+    Kind::ObjectId,
+];
+
+/// The words of the rules of so many bytes.
+#[tactic(auto, unfolding(crate::specs::Kinds::spelling))]
+fn words_of(length: usize) -> &'static [Kind]
+    ensures { result.now ≡ filter (is_spelled_in length) (spec.reserved ++ spec.unreserved) }
+{
+    match length {
+        2 => &[Kind::As, Kind::By, Kind::Is, Kind::On, Kind::Or],
+        3 => OF_THREE,
+        4 => OF_FOUR,
+        5 => OF_FIVE,
+        6 => OF_SIX,
+        7 => OF_SEVEN,
+        8 => OF_EIGHT,
+        9 => OF_NINE,
+        10 => &[Kind::Constraint],
+        11 => &[Kind::Transaction, Kind::ChangeTable],
+        12 => &[Kind::AutoCleanup, Kind::LockTimeout],
+        14 => &[Kind::ColumnProperty],
+        15 => &[Kind::ChangeTracking],
+        16 => &[Kind::ChangeRetention],
+        21 => &[Kind::TrackColumnsUpdated],
+        23 => &[Kind::ChangeTrackingContext, Kind::ReadCommittedSnapshot],
+        24 => &[Kind::AllowSnapshotIsolation],
+        31 => &[Kind::CurrentVersion],
+        33 => &[Kind::MinValidVersion, Kind::IsColumnInMask],
+        _ => &[],
+    }
+}
+
+/// The signs of the rules of so many bytes.
+#[tactic(auto, unfolding(crate::specs::Kinds::spelling))]
+fn signs_of(length: usize) -> &'static [Kind]
+    ensures { result.now ≡ filter (is_spelled_in length) spec.signs }
+{
+    match length {
+        1 => &[
+            Kind::Open,
+            Kind::Close,
+            Kind::Comma,
+            Kind::Dot,
+            Kind::Semicolon,
+            Kind::Equal,
+            Kind::Less,
+            Kind::More,
+            Kind::Plus,
+            Kind::Minus,
+            Kind::Star,
+        ],
+        2 => &[Kind::Different, Kind::Unlike, Kind::AtMost, Kind::AtLeast],
+        _ => &[],
+    }
+}
+
 /// The kind of a token, by its form and its text.
 pub fn kind_of(form: TokenKind, word: &str) -> Kind
     ensures { result ≡ spec.kind_of form word.now }
 {
     match form {
-        TokenKind::Name => kind_in(WORDS, word, Kind::Unlisted),
+        TokenKind::Name => kind_in(words_of(word.len()), word, Kind::Unlisted),
         TokenKind::Bracketed => Kind::Bracketed,
         TokenKind::Variable => Kind::Variable,
-        TokenKind::Number => kind_in(&[Kind::Zero], word, Kind::Number),
+        TokenKind::Number if Kind::Zero.spells(word) => Kind::Zero,
+        TokenKind::Number => Kind::Number,
         TokenKind::Text => Kind::Text,
         TokenKind::Bytes => Kind::Bytes,
-        TokenKind::Sign => kind_in(SIGNS, word, Kind::Other),
+        TokenKind::Sign => kind_in(signs_of(word.len()), word, Kind::Other),
     }
 }

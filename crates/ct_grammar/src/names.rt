@@ -2,13 +2,14 @@
 
 ghost use Rattle.std.specs.Prelude.{◌≡◌, [], ◌∷◌, IfOk};
 ghost use Rattle.ct_lexer.specs.Spans.{AllFit};
+ghost use Rattle.ct_grammar.specs.Told.{AllCut, told};
 ghost use Rattle.ct_grammar.specs.Lexemes.{lexemes};
 ghost use Rattle.ct_grammar.specs.Reading.{Reads, option, whole};
 ghost use Rattle.ct_grammar.specs.ReadNames as spec;
 ghost use Rattle.ct_grammar.specs.TableTexts.{Tells};
 ghost use Rattle.ct_grammar.specs.declared.kind.Kind.TheVariants as k;
 
-use crate::{Cursor, Fault, Kind};
+use crate::{Cursor, Fault, Kind, Kinded, with_kinds};
 use ct_lexer::{LexError, Token, tokens};
 use ct_types::{Memory, ObjectName, Text};
 use std::alloc::Global;
@@ -43,9 +44,9 @@ pub fn table_name(alloc: Global, tokens: &mut Cursor<'_>) -> Result<ObjectName, 
 }
 
 /// The name that these tokens are, where they are one and no more.
-fn whole_name(alloc: Global, text: &str, tokens: &[Token]) -> Result<Option<ObjectName>, Memory>
-    requires { AllFit text.now tokens.now }
-    ensures { IfOk result (λ name. name ≡ whole (spec.table_name (lexemes text.now tokens.now))) }
+fn whole_name(alloc: Global, text: &str, tokens: &[Kinded]) -> Result<Option<ObjectName>, Memory>
+    requires { AllCut text.now tokens.now }
+    ensures { IfOk result (λ name. name ≡ whole (spec.table_name (told text.now tokens.now))) }
 {
     let mut cursor = Cursor::new(text, tokens);
     match table_name(alloc, &mut cursor) {
@@ -53,6 +54,15 @@ fn whole_name(alloc: Global, text: &str, tokens: &[Token]) -> Result<Option<Obje
         Ok(_) | Err(Fault::Syntax(_) | Fault::TooDeep) => Ok(None),
         Err(Fault::Memory) => Err(Memory),
     }
+}
+
+/// The same, where their kinds are not told yet.
+fn spelled_name(alloc: Global, text: &str, tokens: &[Token]) -> Result<Option<ObjectName>, Memory>
+    requires { AllFit text.now tokens.now }
+    ensures { IfOk result (λ name. name ≡ whole (spec.table_name (lexemes text.now tokens.now))) }
+{
+    let found = with_kinds(alloc, text, tokens)?;
+    whole_name(alloc, text, found.as_slice())
 }
 
 /// The name of a table that a text is: its tokens are one name, or two with a full stop between them. None where the text
@@ -65,7 +75,7 @@ pub fn text_name(alloc: Global, text: &str) -> Result<Option<ObjectName>, Memory
         return Ok(None);
     }
     match tokens(alloc, text) {
-        Ok(found) => whole_name(alloc, text, found.as_slice()),
+        Ok(found) => spelled_name(alloc, text, found.as_slice()),
         Err(LexError::Syntax(_)) => Ok(None),
         Err(LexError::Memory) => Err(Memory),
     }

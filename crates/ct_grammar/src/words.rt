@@ -43,7 +43,7 @@ enum Place {
 pub fn text_in(alloc: Global, word: &str) -> Result<Text, Memory>
     ensures { IfOk result (λ text. text ≡ spec.text_in word.now) }
 {
-    let mut text = String::new(alloc);
+    let mut text = String::with_capacity(alloc, word.len().saturating_sub(2))?;
     let mut place = Place::BeforeQuote;
     for c in word.chars() {
         let (next, shown) = step(place, c);
@@ -93,8 +93,9 @@ pub fn bytes_in(alloc: Global, word: &str) -> Result<Bin, Memory>
     ensures { IfOk result (λ bytes. bytes ≡ spec.bytes_in word.now) }
 {
     let digits = word.as_bytes();
-    let mut bytes = Vec::new(alloc);
-    for at in 0..(digits.len() / 2).saturating_sub(1) {
+    let pairs = (digits.len() / 2).saturating_sub(1);
+    let mut bytes = Vec::with_capacity(alloc, pairs)?;
+    for at in 0..pairs {
         bytes.push(hex_digit(digits[2 * at + 2]) * 16 + hex_digit(digits[2 * at + 3]))?;
     }
     Ok(Bin::from_vec(bytes))

@@ -2,6 +2,7 @@
 
 ghost use Rattle.std.specs.Prelude.{◌≡◌, ◌<◌, ◌^◌, ◌-◌, if◌then◌else◌, length, Ok, Err};
 ghost use Rattle.ct_grammar.specs.Lexemes.{lexemes};
+ghost use Rattle.ct_grammar.specs.Told.{AllCut, told};
 ghost use Rattle.ct_lexer.specs.Spans.{AllFit};
 ghost use Rattle.ct_parser.specs.Exact.{Parsed, most, place};
 ghost use Rattle.ct_grammar.specs.Reading.{Gives, Reads};
@@ -9,7 +10,7 @@ ghost use Rattle.ct_parse_expr.specs.ReadExpr as exprs;
 ghost use Rattle.ct_parser.specs.ReadStmt as spec;
 
 use crate::levels::Parser;
-use ct_grammar::{Cursor, Fault, Kind};
+use ct_grammar::{Cursor, Fault, Kind, Kinded, with_kinds};
 use ct_lexer::Token;
 use ct_parse_definition::{alter, create, truncate};
 use ct_types::{Refusal, Stmt};
@@ -75,13 +76,22 @@ fn statement(alloc: Global, tokens: &mut Cursor<'_>) -> Result<Stmt, Fault>
 }
 
 #[tactic(auto, unfolding(crate::specs::ReadStmt::sentence))]
-fn sentence(alloc: Global, text: &str, tokens: &[Token]) -> Result<Stmt, Fault>
-    requires { AllFit text.now tokens.now }
-    ensures { Gives (spec.sentence most (lexemes text.now tokens.now)) result }
+fn sentence(alloc: Global, text: &str, tokens: &[Kinded]) -> Result<Stmt, Fault>
+    requires { AllCut text.now tokens.now }
+    ensures { Gives (spec.sentence most (told text.now tokens.now)) result }
 {
     let mut cursor = Cursor::new(text, tokens);
     let tree = statement(alloc, &mut cursor)?;
     ended(tree, &cursor)
+}
+
+/// The tree of the tokens, whose kinds are looked up first.
+fn reading(alloc: Global, text: &str, tokens: &[Token]) -> Result<Stmt, Fault>
+    requires { AllFit text.now tokens.now }
+    ensures { Gives (spec.sentence most (lexemes text.now tokens.now)) result }
+{
+    let found = with_kinds(alloc, text, tokens)?;
+    sentence(alloc, text, found.as_slice())
 }
 
 /// Where the token begins from which on so many are left, or the end of the text.
@@ -124,6 +134,6 @@ pub fn parse(alloc: Global, text: &str, tokens: &[Token]) -> Result<Stmt, Refusa
     requires fit { AllFit text.now tokens.now }
     ensures { Parsed text.now tokens.now result }
 {
-    let read = sentence(alloc, text, tokens);
+    let read = reading(alloc, text, tokens);
     answer(text, tokens, read)
 }

@@ -1,0 +1,9 @@
+use Rattle.std.proofs.Common.{[], ◌∷◌, arith}
+use Rattle.ct_grammar.proofs.Told.{too_few}
+use Rattle.ct_grammar.proofs.cursor.Cursor.sees_three.Goals as goal
+
+pub returns-in-len1 : goal.returns-in-len1
+returns-in-len1 c = too_few c.self.inside.text.now c.self.inside.tokens.now (c.args.one.now ∷ c.args.two.now ∷ c.args.three.now ∷ []) _ c.self.view_is (omega (arith, c.in-len1.len_below))
+
+pub returns-in-len2 : goal.returns-in-len2
+returns-in-len2 c = too_few c.self.inside.text.now c.self.inside.tokens.now (c.args.one.now ∷ c.args.two.now ∷ c.args.three.now ∷ []) _ c.self.view_is (omega (arith, c.in-len2.len_below))
