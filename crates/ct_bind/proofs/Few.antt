@@ -1,11 +1,10 @@
 -- A table that is found has few columns, where all tables have.
-use Rattle.std.proofs.Common.{◌≡◌, ◌≤◌, Bool, true, false, List, [], ◌∷◌, length, Option, Some, None, Result, Ok, Err, IfOk, find, cond, subst}
-use Rattle.std.specs.List.{AllByRecursion}
+use Rattle.std.proofs.Common.{◌≤◌, List, length, Result, Ok, Err, IfOk}
 use denote.Ref.{Bor}
 use Rattle.ct_types.specs.declared.catalogue.Catalogued.{Catalogued}
 use Rattle.ct_types.specs.declared.expr.ObjectName.{ObjectName}
 use Rattle.ct_types.specs.declared.refusal.Refusal.{Refusal}
-use Rattle.ct_types.specs.Answers.{or_refuse, Lends}
+use Rattle.ct_types.specs.Answers.{Lends}
 use Rattle.ct_bind_names.specs.Names.{same, table_name}
 use Rattle.ct_bind_names.specs.Catalogue.{existing_table, table_named}
 use Rattle.ct_bind.specs.Limits.{HaveFewColumns}

@@ -1,5 +1,5 @@
 -- What is bound keeps the limits of a table's columns, where all tables do.
-use Rattle.std.proofs.Common.{◌≡◌, ◌==◌, ℕ, ◌+◌, ◌<◌, ◌≤◌, nat_le, nat_lt, Bool, true, false, not, List, [], ◌∷◌, ◌++◌, length, map, Option, Some, None, is_some, Ok, Err, IfOk, refl, subst, cond, find, arith, leb-true}
+use Rattle.std.proofs.Common.{◌≡◌, ◌==◌, ℕ, ◌+◌, ◌<◌, ◌≤◌, nat_le, nat_lt, Bool, true, not, List, [], ◌∷◌, length, map, Option, Some, None, is_some, Ok, Err, IfOk, refl, find, arith, leb-true}
 use Rattle.std.specs.List.{AllByRecursion}
 use Rattle.std.proofs.lemmas.List.Elements.{All-from_recursion}
 use Rattle.ct_types.specs.declared.bound.Bound.{Bound}
@@ -13,11 +13,10 @@ use Rattle.ct_types.specs.declared.schema.Schema.{Schema}
 use Rattle.ct_types.specs.declared.stmt.ColumnDef.{ColumnDef}
 use Rattle.ct_types.specs.declared.stmt.SetColumn.{SetColumn}
 use Rattle.ct_bind_kinds.specs.Kinds.{kind_of_type}
-use Rattle.ct_types.specs.declared.refusal.Refusal.{Refusal}
 use Rattle.ct_types.specs.declared.refusal.Refusal.TheVariants.{Ambiguous, KeyUpdate, TooMany, BadTable, Exists, AlreadyTracked, TrackingOff, TablesTracked, VariableExists}
 use Rattle.ct_types.specs.declared.bound.BoundWrite.{BoundWrite}
 use Rattle.ct_types.specs.declared.stmt.TableSource.{TableSource}
-use Rattle.ct_types.specs.Answers.{Answer, Gives, ◌>>=◌, ◌>>◌, demand, optional, each, each_after}
+use Rattle.ct_types.specs.Answers.{Answer, Gives, ◌>>=◌, demand, optional, each, each_after}
 use Rattle.ct_bind_names.specs.Catalogue.{existing_table, tracked_table, table_named, declared_variable, is_declared}
 use Rattle.ct_bind_expr.specs.Places.{of_kind}
 use Rattle.ct_bind_expr.specs.Walk.{walk}

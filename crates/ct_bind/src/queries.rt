@@ -1,13 +1,15 @@
-ghost use Rattle.std.specs.Prelude.{◌≡◌, ◌≢◌, ◌++◌, [], map, IfOk, MatchResult};
+ghost use Rattle.std.specs.Prelude.{◌≡◌, ◌≢◌, ◌+◌, ◌++◌, [], map, IfOk, MatchResult};
 ghost use Rattle.ct_types.specs.declared.refusal.Refusal.TheVariants.{Memory as no_memory};
 ghost use Rattle.ct_types.specs.Answers.{Gives, Adds, each, optional};
+ghost use Rattle.ct_bind_expr.specs.Among.{among};
 ghost use Rattle.ct_bind_expr.specs.Places.{row_of, any_value as value_of};
 ghost use Rattle.ct_bind.specs.Sources.{condition as condition_at};
 ghost use Rattle.ct_bind.specs.Queries as spec;
 
-use crate::sources::{Joined, condition, join_sources};
+use crate::hold::{demanded, with_held};
+use crate::sources::{Joined, join_sources, optional_as};
 use ct_bind_expr::{Binder, Output, Place, Shape, Shown, Spot, Typed, any_value};
-use ct_bind_kinds::is_value;
+use ct_bind_kinds::{Kind, is_value};
 use ct_bind_names::{place_after, same_name};
 use ct_types::{
     BoundExpr, BoundSelect, BoundSource, Copies, Expr, FromClause, Join, List, Memory, OrderBy,
@@ -16,7 +18,7 @@ use ct_types::{
 use std::alloc::Global;
 
 /// A bound item of an answer.
-#[derive(Debug, Drop)]
+#[derive(Drop)]
 struct Item {
     /// None where the item has neither an alias nor is a column.
     name: Option<Text>,
@@ -24,7 +26,7 @@ struct Item {
 }
 
 /// What stands behind FROM.
-#[derive(Debug, Drop)]
+#[derive(Drop)]
 struct Parts {
     items: List<Item>,
     /// WHERE
@@ -45,13 +47,11 @@ fn push_columns_from(
 {
     let mut place = at;
     for column in columns {
-        made.push(Item {
-            name: Some(column.name.copy(alloc)?),
-            value: Typed {
-                expr: BoundExpr::Column(place),
-                kind: column.kind,
-            },
-        })?;
+        let name = Some(column.name.copy(alloc)?);
+        let expr = BoundExpr::Column(place);
+        let kind = column.kind;
+        let value = Typed { expr, kind };
+        push(made, Item { name, value })?;
         place = place_after(place, 1)?;
     }
     Ok(())
@@ -89,11 +89,20 @@ fn item_name(alloc: Global, alias: &Option<Text>, value: &Expr) -> Result<Option
 fn checked_value(it: Typed) -> Result<Typed, Refusal>
     ensures { MatchResult result (λ made. (value_of it ≡ Ok it.expr) × (made ≡ it)) (λ refusal. value_of it ≡ Err refusal) }
 {
-    if is_value(it.kind) {
-        Ok(it)
-    } else {
-        Err(Refusal::TypeClash)
-    }
+    demanded(is_value(it.kind), it)
+}
+
+/// An expression that is bound, under the name of its item.
+fn named_item(
+    alloc: Global,
+    alias: &Option<Text>,
+    written: &Expr,
+    value: Typed,
+) -> Result<Item, Memory>
+    ensures { IfOk result (λ made. made ≡ spec.item (spec.item_name alias.now written.now) value) }
+{
+    let (name, value) = with_held(item_name(alloc, alias, written), value)?;
+    Ok(Item { name, value })
 }
 
 #[tactic(auto, unfolding(crate::specs::Queries::one_item))]
@@ -105,12 +114,11 @@ fn push_one(
     alias: &Option<Text>,
 ) -> Result<(), Refusal>
     requires { place.now ≡ row_of place.now.sources }
-    ensures { Adds (spec.one_item binder.now.tables.now binder.now.variables.now place.now.sources value.now alias.now) made.old result made.new }
+    ensures { Adds (among binder.now spec.one_item place.now.sources value.now alias.now) made.old result made.new }
 {
     let it = binder.walk(place, value)?;
     let bound = checked_value(it)?;
-    let name = item_name(binder.alloc, alias, value)?;
-    let item = Item { name, value: bound };
+    let item = named_item(binder.alloc, alias, value, bound)?;
     push(made, item)?;
     Ok(())
 }
@@ -148,7 +156,7 @@ fn push_item(
     item: &SelectItem,
 ) -> Result<(), Refusal>
     requires { place.now ≡ row_of place.now.sources }
-    ensures { Adds (spec.bound_item binder.now.tables.now binder.now.variables.now place.now.sources item.now) made.old result made.new }
+    ensures { Adds (among binder.now spec.bound_item place.now.sources item.now) made.old result made.new }
 {
     let sources = place.sources.as_slice();
     match item {
@@ -165,7 +173,7 @@ fn push_item(
 #[tactic(auto, unfolding(crate::specs::Queries::items_of), using(crate::proofs::Items::items_onto, crate::proofs::Items::items_stop))]
 fn items_of(binder: &Binder<'_>, place: &Place, items: &[SelectItem]) -> Result<List<Item>, Refusal>
     requires { place.now ≡ row_of place.now.sources }
-    ensures { Gives (spec.items_of binder.now.tables.now binder.now.variables.now place.now.sources items.now) result }
+    ensures { Gives (among binder.now spec.items_of place.now.sources items.now) result }
 {
     let mut made = List::new(binder.alloc);
     for item in items {
@@ -176,7 +184,7 @@ fn items_of(binder: &Binder<'_>, place: &Place, items: &[SelectItem]) -> Result<
 
 #[tactic(auto, unfolding(crate::specs::Queries::order_by))]
 fn order_by(binder: &Binder<'_>, place: &Place, it: &OrderItem) -> Result<OrderBy, Refusal>
-    ensures { Gives (spec.order_by binder.now.tables.now binder.now.variables.now place.now it.now) result }
+    ensures { Gives (among binder.now spec.order_by place.now it.now) result }
 {
     let bound = binder.walk(place, &it.value)?;
     let expr = any_value(bound)?;
@@ -192,7 +200,7 @@ fn each_order_by(
     place: &Place,
     order: &[OrderItem],
 ) -> Result<List<OrderBy>, Refusal>
-    ensures { Gives (each (spec.order_by binder.now.tables.now binder.now.variables.now place.now) order.now) result }
+    ensures { Gives (each (among binder.now spec.order_by place.now) order.now) result }
 {
     let mut made = List::new(binder.alloc);
     for it in order {
@@ -203,17 +211,15 @@ fn each_order_by(
 }
 
 /// A condition, where one is written.
+#[tactic(auto, unfolding(crate::specs::Sources::condition, ct_bind_expr::specs::Versions::operand))]
 pub(crate) fn filter_of(
     binder: &Binder<'_>,
     place: &Place,
     filter: &Option<Expr>,
 ) -> Result<Option<BoundExpr>, Refusal>
-    ensures { Gives (optional (condition_at binder.now.tables.now binder.now.variables.now place.now) filter.now) result }
+    ensures { Gives (optional (among binder.now condition_at place.now) filter.now) result }
 {
-    match filter {
-        None => Ok(None),
-        Some(filter) => Ok(Some(condition(binder, place, filter)?)),
-    }
+    optional_as(binder, Kind::Condition, place, filter)
 }
 
 /// The names of the columns of an answer.
@@ -222,7 +228,7 @@ fn names_of(alloc: Global, items: &[Item]) -> Result<List<Text>, Memory>
 {
     let mut made = List::new(alloc);
     for item in items {
-        made.push(shown_name(alloc, &item.name)?)?;
+        push(&mut made, shown_name(alloc, &item.name)?)?;
     }
     Ok(made)
 }
@@ -246,12 +252,11 @@ fn expr_of(item: Item) -> BoundExpr
 fn values_of(alloc: Global, items: List<Item>) -> Result<List<BoundExpr>, Memory>
     ensures { IfOk result (λ made. made ≡ map (λ item. item.value.expr) items) }
 {
-    let values = items
-        .into_vec()
-        .into_iter()
-        .map(|item| expr_of(item))
-        .collect(alloc)?;
-    Ok(List::from_vec(values))
+    let mut values = List::new(alloc);
+    for item in items.into_vec() {
+        push(&mut values, expr_of(item))?;
+    }
+    Ok(values)
 }
 
 fn name_copy(alloc: Global, name: &Option<Text>) -> Result<Option<Text>, Memory>
@@ -271,13 +276,10 @@ fn outputs_from(alloc: Global, at: u32, items: &[Item]) -> Result<List<Output>, 
     let mut made = List::new(alloc);
     let mut place = at;
     for item in items {
-        made.push(Output {
-            name: name_copy(alloc, &item.name)?,
-            spot: Spot {
-                place,
-                kind: item.value.kind,
-            },
-        })?;
+        let name = name_copy(alloc, &item.name)?;
+        let kind = item.value.kind;
+        let spot = Spot { place, kind };
+        push(&mut made, Output { name, spot })?;
         place = place_after(place, 1)?;
     }
     Ok(made)
@@ -302,7 +304,7 @@ fn right_width(shapes: &[Shape]) -> Result<u32, Memory>
 }
 
 fn from_of(binder: &Binder<'_>, from: &Option<FromClause>) -> Result<Joined, Refusal>
-    ensures { Gives (spec.from_of binder.now.tables.now binder.now.variables.now from.now) result }
+    ensures { Gives (among binder.now spec.from_of from.now) result }
 {
     match from {
         None => Ok(Joined {
@@ -316,6 +318,28 @@ fn from_of(binder: &Binder<'_>, from: &Option<FromClause>) -> Result<Joined, Ref
     }
 }
 
+/// The items as ORDER BY names them, behind the row of these sources.
+fn outputs_behind(alloc: Global, sources: &[Shape], items: &[Item]) -> Result<List<Output>, Memory>
+    ensures { IfOk result (λ made. made ≡ spec.outputs_from (spec.left_width sources.now + spec.right_width sources.now) items.now) }
+{
+    let (left, right) = widths_of(sources)?;
+    let at = place_after(left, right as usize)?;
+    outputs_from(alloc, at, items)
+}
+
+/// The place of ORDER BY.
+fn order_place(alloc: Global, sources: List<Shape>, items: &[Item]) -> Result<Place, Memory>
+    ensures { IfOk result (λ made. made ≡ spec.order_place sources items.now) }
+{
+    let outputs = outputs_behind(alloc, sources.as_slice(), items);
+    let (outputs, sources) = with_held(outputs, sources)?;
+    Ok(Place {
+        is_closed: false,
+        sources,
+        outputs,
+    })
+}
+
 /// ORDER BY, behind these items.
 fn order_of(
     binder: &Binder<'_>,
@@ -323,16 +347,9 @@ fn order_of(
     items: &[Item],
     order: &[OrderItem],
 ) -> Result<List<OrderBy>, Refusal>
-    ensures { Gives (each (spec.order_by binder.now.tables.now binder.now.variables.now (spec.order_place place.sources items.now)) order.now) result }
+    ensures { Gives (each (among binder.now spec.order_by (spec.order_place place.sources items.now)) order.now) result }
 {
-    let (left, right) = widths_of(place.sources.as_slice())?;
-    let at = place_after(left, right as usize)?;
-    let outputs = outputs_from(binder.alloc, at, items)?;
-    let place = Place {
-        is_closed: false,
-        sources: place.sources,
-        outputs,
-    };
+    let place = order_place(binder.alloc, place.sources, items)?;
     each_order_by(binder, &place, order)
 }
 
@@ -340,11 +357,14 @@ fn order_of(
 #[tactic(auto, unfolding(crate::specs::Queries::parts_of))]
 fn parts_of(binder: &Binder<'_>, place: Place, it: &Select) -> Result<Parts, Refusal>
     requires { place ≡ row_of place.sources }
-    ensures { Gives (spec.parts_of binder.now.tables.now binder.now.variables.now place.sources it.now) result }
+    ensures { Gives (among binder.now spec.parts_of place.sources it.now) result }
 {
-    let items = items_of(binder, &place, it.items.as_slice())?;
-    let filter = filter_of(binder, &place, &it.condition)?;
-    let order = order_of(binder, place, items.as_slice(), it.order.as_slice())?;
+    let items = items_of(binder, &place, it.items.as_slice());
+    let (items, place) = with_held(items, place)?;
+    let filter = filter_of(binder, &place, &it.condition);
+    let (filter, (items, place)) = with_held(filter, (items, place))?;
+    let order = order_of(binder, place, items.as_slice(), it.order.as_slice());
+    let (order, (items, filter)) = with_held(order, (items, filter))?;
     Ok(Parts {
         items,
         filter,
@@ -356,46 +376,9 @@ fn parts_of(binder: &Binder<'_>, place: Place, it: &Select) -> Result<Parts, Ref
 fn answer_of(alloc: Global, items: List<Item>) -> Result<(List<Text>, List<BoundExpr>), Memory>
     ensures { IfOk result (λ made. (made.0 ≡ map (λ item. spec.shown_name item.name) items) × (made.1 ≡ map (λ item. item.value.expr) items)) }
 {
-    let names = names_of(alloc, items.as_slice())?;
-    let values = values_of(alloc, items)?;
+    let (names, items) = with_held(names_of(alloc, items.as_slice()), items)?;
+    let (values, names) = with_held(values_of(alloc, items), names)?;
     Ok((names, values))
-}
-
-/// The plan of sources of these widths, joined so, and what stands behind them.
-fn plan_of(
-    alloc: Global,
-    widths: (u32, u32),
-    join: Join,
-    on: Option<BoundExpr>,
-    parts: Parts,
-) -> Result<Plan, Memory>
-    ensures { IfOk result (λ plan. plan ≡ record {
-      left = widths.0;
-      right = widths.1;
-      names = map (λ item. spec.shown_name item.name) parts.items;
-      items = map (λ item. item.value.expr) parts.items;
-      join = join;
-      on = on;
-      filter = parts.filter;
-      order = parts.order;
-    }) }
-{
-    let Parts {
-        items,
-        filter,
-        order,
-    } = parts;
-    let (names, items) = answer_of(alloc, items)?;
-    Ok(Plan {
-        left: widths.0,
-        right: widths.1,
-        names,
-        items,
-        join,
-        on,
-        filter,
-        order,
-    })
 }
 
 /// The widths of the left source and of the right one.
@@ -412,10 +395,10 @@ fn sized_parts(
     it: &Select,
 ) -> Result<((u32, u32), Parts), Refusal>
     ensures { MatchResult result
-        (λ made. (made.0.0 ≡ spec.left_width shapes) × ((made.0.1 ≡ spec.right_width shapes) × (spec.parts_of binder.now.tables.now binder.now.variables.now shapes it.now ≡ Ok made.1)))
-        (λ refusal. refusal ≢ no_memory → spec.parts_of binder.now.tables.now binder.now.variables.now shapes it.now ≡ Err refusal) }
+        (λ made. (made.0.0 ≡ spec.left_width shapes) × ((made.0.1 ≡ spec.right_width shapes) × (among binder.now spec.parts_of shapes it.now ≡ Ok made.1)))
+        (λ refusal. refusal ≢ no_memory → among binder.now spec.parts_of shapes it.now ≡ Err refusal) }
 {
-    let widths = widths_of(shapes.as_slice())?;
+    let (widths, shapes) = with_held(widths_of(shapes.as_slice()), shapes)?;
     let parts = parts_of(binder, Place::row(binder.alloc, shapes), it)?;
     Ok((widths, parts))
 }
@@ -435,23 +418,35 @@ fn planned(
       plan = record {
         left = widths.0;
         right = widths.1;
-        names = map (λ item. spec.shown_name item.name) parts.items;
-        items = map (λ item. item.value.expr) parts.items;
         join = join;
         on = on;
         filter = parts.filter;
         order = parts.order;
+        names = map (λ item. spec.shown_name item.name) parts.items;
+        items = map (λ item. item.value.expr) parts.items;
       };
     }) }
 {
+    let held = (sources, (on, parts.filter, parts.order));
+    let answer = answer_of(alloc, parts.items);
+    let ((names, items), (sources, (on, filter, order))) = with_held(answer, held)?;
+    let plan = Plan {
+        left: widths.0,
+        right: widths.1,
+        names,
+        items,
+        join,
+        on,
+        filter,
+        order,
+    };
     let (left, right) = sources;
-    let plan = plan_of(alloc, widths, join, on, parts)?;
     Ok(BoundSelect { left, right, plan })
 }
 
 /// What stands behind FROM, on what FROM comes to.
 fn select_from(binder: &Binder<'_>, from: Joined, it: &Select) -> Result<BoundSelect, Refusal>
-    ensures { Gives (spec.select_from binder.now.tables.now binder.now.variables.now from it.now) result }
+    ensures { Gives (among binder.now spec.select_from from it.now) result }
 {
     let Joined {
         left,
@@ -460,14 +455,15 @@ fn select_from(binder: &Binder<'_>, from: Joined, it: &Select) -> Result<BoundSe
         on,
         shapes,
     } = from;
-    let (widths, parts) = sized_parts(binder, shapes, it)?;
-    Ok(planned(binder.alloc, (left, right), widths, join, on, parts)?)
+    let held = ((left, right), on);
+    let ((widths, parts), (sources, on)) = with_held(sized_parts(binder, shapes, it), held)?;
+    Ok(planned(binder.alloc, sources, widths, join, on, parts)?)
 }
 
 /// What a SELECT comes to.
 #[tactic(auto, unfolding(crate::specs::Queries::select))]
 pub(crate) fn select(binder: &Binder<'_>, it: &Select) -> Result<BoundSelect, Refusal>
-    ensures { Gives (spec.select binder.now.tables.now binder.now.variables.now it.now) result }
+    ensures { Gives (among binder.now spec.select it.now) result }
 {
     let from = from_of(binder, &it.from)?;
     select_from(binder, from, it)

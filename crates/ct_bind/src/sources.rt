@@ -1,12 +1,17 @@
-ghost use Rattle.std.specs.Prelude.{◌≡◌, ◌≢◌, ◌++◌, ◌∷◌, [], false, map, IfOk, MatchResult};
+ghost use Rattle.std.specs.Prelude.{◌≡◌, ◌≢◌, ◌++◌, ◌∷◌, [], codes, false, IfOk, MatchResult};
 ghost use Rattle.std.specs.List.{list_any};
 ghost use Rattle.ct_types.specs.declared.bound.Join.TheVariants.{Apply};
 ghost use Rattle.ct_types.specs.declared.refusal.Refusal.TheVariants.{Memory as no_memory};
-ghost use Rattle.ct_types.specs.Answers.{Gives};
+ghost use Rattle.ct_types.specs.Answers.{Gives, optional};
 ghost use Rattle.ct_bind_names.specs.Names.{same};
-ghost use Rattle.ct_bind_expr.specs.Places.{row_of};
+ghost use Rattle.ct_bind_kinds.specs.declared.kind.Kind.TheVariants.{Number, Bytes};
+ghost use Rattle.ct_bind_expr.specs.Among.{among};
+ghost use Rattle.ct_bind_expr.specs.Places.{closed, row_of};
+ghost use Rattle.ct_bind_expr.specs.Versions.{operand, key_columns as key_of};
+ghost use Rattle.ct_bind_expr.specs.Walk.{walk};
 ghost use Rattle.ct_bind.specs.Sources as spec;
 
+use crate::hold::with_held;
 use ct_bind_expr::{Binder, Place, Shape, Shown, key_columns, of_kind};
 use ct_bind_kinds::{Kind, kind_of_type};
 use ct_bind_names::{
@@ -14,19 +19,20 @@ use ct_bind_names::{
 };
 use ct_types::{
     BoundExpr, BoundSource, Column, Copies, Expr, FromClause, Join, JoinClause, JoinKind, List,
-    Memory, ObjectName, Refusal, Schema, Source, TableSource, Text, VersionSource,
+    Memory, ObjectName, Refusal, Schema, Source, TableSource, Text, VersionSource, push,
 };
 use std::alloc::Global;
+use std::slice::from_ref;
 
 /// A source with what names see of it.
-#[derive(Debug, Drop)]
+#[derive(Drop)]
 pub(crate) struct Sourced {
     pub(crate) source: BoundSource,
     pub(crate) shape: Shape,
 }
 
 /// What FROM comes to.
-#[derive(Debug, Drop)]
+#[derive(Drop)]
 pub(crate) struct Joined {
     pub(crate) left: Option<BoundSource>,
     pub(crate) right: Option<BoundSource>,
@@ -39,11 +45,8 @@ pub(crate) struct Joined {
 fn push_shown(alloc: Global, made: &mut List<Shown>, name: &str, kind: Kind) -> Result<(), Memory>
     ensures { IfOk result (λ _. made.new ≡ made.old ++ spec.shown name.now kind ∷ []) }
 {
-    made.push(Shown {
-        name: Text::of(alloc, name)?,
-        kind,
-    })?;
-    Ok(())
+    let name = Text::of(alloc, name)?;
+    push(made, Shown { name, kind })
 }
 
 /// Adds the columns of a table, as they are defined.
@@ -61,33 +64,19 @@ pub(crate) fn push_columns(
     Ok(())
 }
 
-#[tactic(auto, unfolding(crate::specs::Sources::changes_columns))]
-fn changes_columns(alloc: Global, table: &Schema) -> Result<List<Shown>, Memory>
-    ensures { IfOk result (λ made. made ≡ spec.changes_columns table.now) }
+/// Three columns of numbers.
+fn three_numbers(
+    alloc: Global,
+    first: &str,
+    second: &str,
+    third: &str,
+) -> Result<List<Shown>, Memory>
+    ensures { IfOk result (λ made. made ≡ spec.shown first.now Number ∷ spec.shown second.now Number ∷ spec.shown third.now Number ∷ []) }
 {
     let mut made = List::new(alloc);
-    push_shown(alloc, &mut made, "SYS_CHANGE_VERSION", Kind::Number)?;
-    push_shown(
-        alloc,
-        &mut made,
-        "SYS_CHANGE_CREATION_VERSION",
-        Kind::Number,
-    )?;
-    push_shown(alloc, &mut made, "SYS_CHANGE_OPERATION", Kind::Text)?;
-    push_shown(alloc, &mut made, "SYS_CHANGE_COLUMNS", Kind::Bytes)?;
-    push_shown(alloc, &mut made, "SYS_CHANGE_CONTEXT", Kind::Bytes)?;
-    push_columns(alloc, &mut made, key_columns(alloc, table)?.as_slice())?;
-    Ok(made)
-}
-
-#[tactic(auto, unfolding(crate::specs::Sources::version_columns))]
-fn version_columns(alloc: Global, table: &Schema) -> Result<List<Shown>, Memory>
-    ensures { IfOk result (λ made. made ≡ spec.version_columns table.now) }
-{
-    let mut made = List::new(alloc);
-    push_shown(alloc, &mut made, "SYS_CHANGE_VERSION", Kind::Number)?;
-    push_shown(alloc, &mut made, "SYS_CHANGE_CONTEXT", Kind::Bytes)?;
-    push_columns(alloc, &mut made, key_columns(alloc, table)?.as_slice())?;
+    push_shown(alloc, &mut made, first, Kind::Number)?;
+    push_shown(alloc, &mut made, second, Kind::Number)?;
+    push_shown(alloc, &mut made, third, Kind::Number)?;
     Ok(made)
 }
 
@@ -95,25 +84,14 @@ fn version_columns(alloc: Global, table: &Schema) -> Result<List<Shown>, Memory>
 fn system_columns(alloc: Global, table: SystemTable) -> Result<List<Shown>, Memory>
     ensures { IfOk result (λ made. made ≡ spec.system_columns table) }
 {
-    let mut made = List::new(alloc);
     match table {
-        SystemTable::Commits => {
-            push_shown(alloc, &mut made, "commit_ts", Kind::Number)?;
-            push_shown(alloc, &mut made, "xdes_id", Kind::Number)?;
-            push_shown(alloc, &mut made, "commit_time", Kind::Number)?;
-            Ok(made)
-        }
-        SystemTable::Tracking => {
-            push_shown(alloc, &mut made, "object_id", Kind::Number)?;
-            push_shown(
-                alloc,
-                &mut made,
-                "is_track_columns_updated_on",
-                Kind::Number,
-            )?;
-            push_shown(alloc, &mut made, "min_valid_version", Kind::Number)?;
-            Ok(made)
-        }
+        SystemTable::Commits => three_numbers(alloc, "commit_ts", "xdes_id", "commit_time"),
+        SystemTable::Tracking => three_numbers(
+            alloc,
+            "object_id",
+            "is_track_columns_updated_on",
+            "min_valid_version",
+        ),
     }
 }
 
@@ -140,9 +118,12 @@ pub(crate) fn source_name(from: &TableSource) -> &Text
 fn has_source(before: &[Shape], name: &Text) -> bool
     ensures { result ≡ list_any (λ source. same source.name name.now) before.now }
 {
-    before
-        .iter()
-        .any(|source| same_name(source.name.as_str(), name.as_str()))
+    for source in before {
+        if same_name(source.name.as_str(), name.as_str()) {
+            return true;
+        }
+    }
+    false
 }
 
 /// Ambiguous where a source before has the name.
@@ -157,6 +138,54 @@ fn unique(alloc: Global, before: &[Shape], name: &Text) -> Result<(), Refusal>
     } else {
         Ok(())
     }
+}
+
+/// A source of this name, which shows these columns.
+fn named_shape(alloc: Global, name: &Text, columns: List<Shown>) -> Result<Shape, Memory>
+    ensures { IfOk result (λ made. made ≡ spec.shape name.now columns) }
+{
+    let (name, columns) = with_held(name.copy(alloc), columns)?;
+    Ok(Shape { name, columns })
+}
+
+/// Adds the columns with which both forms of CHANGETABLE end: the context, and the key.
+fn push_context_and_key(alloc: Global, made: &mut List<Shown>, table: &Schema) -> Result<(), Memory>
+    ensures { IfOk result (λ _. made.new ≡ (made.old ++ spec.shown (codes "SYS_CHANGE_CONTEXT") Bytes ∷ []) ++ spec.shown_columns (key_of table.now)) }
+{
+    push_shown(alloc, made, "SYS_CHANGE_CONTEXT", Kind::Bytes)?;
+    let key = key_columns(alloc, table)?;
+    push_columns(alloc, made, key.as_slice())?;
+    Ok(())
+}
+
+/// The row of CHANGETABLE(CHANGES ..).
+#[tactic(auto, unfolding(crate::specs::Sources::changes_columns))]
+fn changes_shape(alloc: Global, alias: &Text, table: &Schema) -> Result<Shape, Memory>
+    ensures { IfOk result (λ made. made ≡ spec.shape alias.now (spec.changes_columns table.now)) }
+{
+    let mut columns = List::new(alloc);
+    push_shown(alloc, &mut columns, "SYS_CHANGE_VERSION", Kind::Number)?;
+    push_shown(
+        alloc,
+        &mut columns,
+        "SYS_CHANGE_CREATION_VERSION",
+        Kind::Number,
+    )?;
+    push_shown(alloc, &mut columns, "SYS_CHANGE_OPERATION", Kind::Text)?;
+    push_shown(alloc, &mut columns, "SYS_CHANGE_COLUMNS", Kind::Bytes)?;
+    push_context_and_key(alloc, &mut columns, table)?;
+    named_shape(alloc, alias, columns)
+}
+
+/// The row of CHANGETABLE(VERSION ..).
+#[tactic(auto, unfolding(crate::specs::Sources::version_columns))]
+fn version_shape(alloc: Global, alias: &Text, table: &Schema) -> Result<Shape, Memory>
+    ensures { IfOk result (λ made. made ≡ spec.shape alias.now (spec.version_columns table.now)) }
+{
+    let mut columns = List::new(alloc);
+    push_shown(alloc, &mut columns, "SYS_CHANGE_VERSION", Kind::Number)?;
+    push_context_and_key(alloc, &mut columns, table)?;
+    named_shape(alloc, alias, columns)
 }
 
 /// A system table, which stands alone: 208 where it has another source beside it.
@@ -174,12 +203,11 @@ fn system_sourced(
             name: table_name(alloc, &from.table)?,
         });
     }
+    let columns = system_columns(alloc, table)?;
+    let shape = named_shape(alloc, source_name(from), columns)?;
     Ok(Sourced {
         source: system_source(table),
-        shape: Shape {
-            name: source_name(from).copy(alloc)?,
-            columns: system_columns(alloc, table)?,
-        },
+        shape,
     })
 }
 
@@ -189,10 +217,7 @@ pub(crate) fn table_shape(alloc: Global, name: &Text, table: &Schema) -> Result<
 {
     let mut columns = List::new(alloc);
     push_columns(alloc, &mut columns, table.columns.as_slice())?;
-    Ok(Shape {
-        name: name.copy(alloc)?,
-        columns,
-    })
+    named_shape(alloc, name, columns)
 }
 
 #[tactic(auto, unfolding(crate::specs::Sources::plain_sourced))]
@@ -207,9 +232,10 @@ fn plain_sourced(
     let table = existing_table(alloc, binder.tables, &from.table)?;
     let name = source_name(from);
     unique(alloc, before, name)?;
+    let shape = table_shape(alloc, name, &table.schema)?;
     Ok(Sourced {
         source: BoundSource::Table(table.schema.id),
-        shape: table_shape(alloc, name, &table.schema)?,
+        shape,
     })
 }
 
@@ -229,16 +255,51 @@ fn table_source(
     }
 }
 
-/// A condition at a place.
-#[tactic(auto, unfolding(crate::specs::Sources::condition))]
-pub(crate) fn condition(binder: &Binder<'_>, place: &Place, e: &Expr) -> Result<BoundExpr, Refusal>
-    ensures { Gives (spec.condition binder.now.tables.now binder.now.variables.now place.now e.now) result }
+/// An expression at a place, where it may stand for one of this kind.
+#[tactic(auto, unfolding(ct_bind_expr::specs::Versions::operand))]
+pub(crate) fn walked_as(
+    binder: &Binder<'_>,
+    kind: Kind,
+    place: &Place,
+    e: &Expr,
+) -> Result<BoundExpr, Refusal>
+    ensures { Gives (operand kind place.now (among binder.now walk e.now)) result }
 {
     let it = binder.walk(place, e)?;
-    of_kind(Kind::Condition, it)
+    of_kind(kind, it)
 }
 
-#[tactic(auto, unfolding(crate::specs::Sources::changes_source))]
+/// The same of an expression that need not be written.
+pub(crate) fn optional_as(
+    binder: &Binder<'_>,
+    kind: Kind,
+    place: &Place,
+    e: &Option<Expr>,
+) -> Result<Option<BoundExpr>, Refusal>
+    ensures { Gives (optional (λ e. operand kind place.now (among binder.now walk e)) e.now) result }
+{
+    match e {
+        None => Ok(None),
+        Some(e) => Ok(Some(walked_as(binder, kind, place, e)?)),
+    }
+}
+
+/// A condition at a place.
+#[tactic(auto, unfolding(crate::specs::Sources::condition, ct_bind_expr::specs::Versions::operand))]
+fn condition(binder: &Binder<'_>, place: &Place, e: &Expr) -> Result<BoundExpr, Refusal>
+    ensures { Gives (among binder.now spec.condition place.now e.now) result }
+{
+    walked_as(binder, Kind::Condition, place, e)
+}
+
+/// The same, where no column may be named.
+fn walked_closed(binder: &Binder<'_>, kind: Kind, e: &Expr) -> Result<BoundExpr, Refusal>
+    ensures { Gives (operand kind closed (among binder.now walk e.now)) result }
+{
+    walked_as(binder, kind, &Place::closed(binder.alloc), e)
+}
+
+#[tactic(auto, unfolding(crate::specs::Sources::changes_source, ct_bind_expr::specs::Versions::operand))]
 fn changes_source(
     binder: &Binder<'_>,
     before: &[Shape],
@@ -246,22 +307,19 @@ fn changes_source(
     since: &Expr,
     alias: &Text,
 ) -> Result<Sourced, Refusal>
-    ensures { Gives (spec.changes_source binder.now.tables.now binder.now.variables.now before.now name.now since.now alias.now) result }
+    ensures { Gives (among binder.now spec.changes_source before.now name.now since.now alias.now) result }
 {
     let alloc = binder.alloc;
     let table = tracked_table(alloc, binder.tables, name)?;
     unique(alloc, before, alias)?;
-    let since = binder.walk(&Place::closed(alloc), since)?;
-    let since = of_kind(Kind::Number, since)?;
+    let since = walked_closed(binder, Kind::Number, since)?;
+    let (shape, since) = with_held(changes_shape(alloc, alias, &table.schema), since)?;
     Ok(Sourced {
         source: BoundSource::Changes {
             table: table.schema.id,
             since,
         },
-        shape: Shape {
-            name: alias.copy(alloc)?,
-            columns: changes_columns(alloc, &table.schema)?,
-        },
+        shape,
     })
 }
 
@@ -272,7 +330,7 @@ fn version_source(
     place: &Place,
     from: &VersionSource,
 ) -> Result<Sourced, Refusal>
-    ensures { Gives (spec.version_source binder.now.tables.now binder.now.variables.now before.now place.now from.now) result }
+    ensures { Gives (among binder.now spec.version_source before.now place.now from.now) result }
 {
     let alloc = binder.alloc;
     let table = tracked_table(alloc, binder.tables, &from.version.table)?;
@@ -283,12 +341,11 @@ fn version_source(
         from.version.columns.as_slice(),
         from.version.values.as_slice(),
     )?;
+    let shape = version_shape(alloc, &from.alias, &table.schema);
+    let (shape, version) = with_held(shape, version)?;
     Ok(Sourced {
         source: BoundSource::Version(version),
-        shape: Shape {
-            name: from.alias.copy(alloc)?,
-            columns: version_columns(alloc, &table.schema)?,
-        },
+        shape,
     })
 }
 
@@ -299,7 +356,7 @@ fn one_source(
     before: &[Shape],
     source: &Source,
 ) -> Result<Sourced, Refusal>
-    ensures { Gives (spec.one_source binder.now.tables.now binder.now.variables.now is_alone before.now source.now) result }
+    ensures { Gives (among binder.now spec.one_source is_alone before.now source.now) result }
 {
     match source {
         Source::Table(from) => table_source(binder, is_alone, before, from),
@@ -324,91 +381,69 @@ fn join_of(kind: JoinKind) -> Join
     }
 }
 
-/// A place on a row of one source.
-fn one_row(alloc: Global, shape: Shape) -> Result<Place, Memory>
-    ensures { IfOk result (λ place. place ≡ row_of (shape ∷ [])) }
+/// One source.
+pub(crate) fn one_shape(alloc: Global, shape: Shape) -> Result<List<Shape>, Memory>
+    ensures { IfOk result (λ made. made ≡ shape ∷ []) }
 {
-    let mut sources = List::new(alloc);
-    sources.push(shape)?;
-    Ok(Place::row(alloc, sources))
+    let mut made = List::new(alloc);
+    push(&mut made, shape)?;
+    Ok(made)
 }
 
-/// A place on a row of these sources and one more.
-fn longer_row(alloc: Global, sources: List<Shape>, shape: Shape) -> Result<Place, Memory>
-    ensures { IfOk result (λ place. place ≡ row_of (sources ++ shape ∷ [])) }
+/// These sources, and one more.
+fn longer(sources: List<Shape>, shape: Shape) -> Result<List<Shape>, Memory>
+    ensures { IfOk result (λ made. made ≡ sources ++ shape ∷ []) }
 {
-    let mut sources = sources;
-    sources.push(shape)?;
-    Ok(Place::row(alloc, sources))
+    let mut made = sources;
+    push(&mut made, shape)?;
+    Ok(made)
 }
 
-/// Two sources that are joined.
-fn pair(
-    left: BoundSource,
-    right: BoundSource,
-    join: Join,
-    on: Option<BoundExpr>,
-    shapes: List<Shape>,
-) -> Joined
-    ensures { result ≡ record { left = Some left; right = Some right; join = join; on = on; shapes = shapes } }
+/// Two sources.
+fn two_shapes(alloc: Global, first: Shape, second: Shape) -> Result<List<Shape>, Memory>
+    ensures { IfOk result (λ made. made ≡ first ∷ second ∷ []) }
 {
-    Joined {
-        left: Some(left),
-        right: Some(right),
-        join,
-        on,
-        shapes,
-    }
+    let (made, second) = with_held(one_shape(alloc, first), second)?;
+    longer(made, second)
 }
 
-/// The row of the first source, and the second one, which stands behind it.
-fn second_of(
-    binder: &Binder<'_>,
-    first: Shape,
-    other: &Source,
-) -> Result<(List<Shape>, Sourced), Refusal>
-    ensures { MatchResult result
-        (λ made. (made.0 ≡ first ∷ []) × (spec.one_source binder.now.tables.now binder.now.variables.now false (first ∷ []) other.now ≡ Ok made.1))
-        (λ refusal. refusal ≢ no_memory → spec.one_source binder.now.tables.now binder.now.variables.now false (first ∷ []) other.now ≡ Err refusal) }
-{
-    let sources = one_row(binder.alloc, first)?.sources;
-    let second = one_source(binder, false, sources.as_slice(), other)?;
-    Ok((sources, second))
-}
-
-/// A condition that sees these sources and one more, and what it sees.
+/// A condition that sees two sources, and what it sees.
 fn on_row(
     binder: &Binder<'_>,
-    sources: List<Shape>,
-    shape: Shape,
+    first: Shape,
+    second: Shape,
     on: &Expr,
 ) -> Result<(BoundExpr, List<Shape>), Refusal>
     ensures { MatchResult result
-        (λ made. (spec.condition binder.now.tables.now binder.now.variables.now (row_of (sources ++ shape ∷ [])) on.now ≡ Ok made.0) × (made.1 ≡ sources ++ shape ∷ []))
-        (λ refusal. refusal ≢ no_memory → spec.condition binder.now.tables.now binder.now.variables.now (row_of (sources ++ shape ∷ [])) on.now ≡ Err refusal) }
+        (λ made. (among binder.now spec.condition (row_of (first ∷ second ∷ [])) on.now ≡ Ok made.0) × (made.1 ≡ first ∷ second ∷ []))
+        (λ refusal. refusal ≢ no_memory → among binder.now spec.condition (row_of (first ∷ second ∷ [])) on.now ≡ Err refusal) }
 {
-    let place = longer_row(binder.alloc, sources, shape)?;
-    let on = condition(binder, &place, on)?;
+    let shapes = two_shapes(binder.alloc, first, second)?;
+    let place = Place::row(binder.alloc, shapes);
+    let (on, place) = with_held(condition(binder, &place, on), place)?;
     Ok((on, place.sources))
 }
 
 /// Two sources, joined on a condition that sees both.
 fn joined_pair(
     binder: &Binder<'_>,
-    first: (BoundSource, List<Shape>),
+    first: Sourced,
     kind: JoinKind,
     second: Sourced,
     on: &Expr,
 ) -> Result<Joined, Refusal>
-    ensures { Gives (spec.joined_pair binder.now.tables.now binder.now.variables.now first.0 first.1 kind second on.now) result }
+    ensures { Gives (among binder.now spec.joined_pair first.source (first.shape ∷ []) kind second on.now) result }
 {
-    let (left, sources) = first;
-    let Sourced {
-        source: right,
-        shape,
-    } = second;
-    let (on, shapes) = on_row(binder, sources, shape, on)?;
-    Ok(pair(left, right, join_of(kind), Some(on), shapes))
+    let on = on_row(binder, first.shape, second.shape, on);
+    let held = (first.source, second.source);
+    let ((on, shapes), (left, right)) = with_held(on, held)?;
+    Ok(Joined {
+        left: Some(left),
+        right: Some(right),
+        join: join_of(kind),
+        on: Some(on),
+        shapes,
+    })
 }
 
 #[tactic(auto, unfolding(crate::specs::Sources::joined_on))]
@@ -419,14 +454,11 @@ fn joined_on(
     other: &Source,
     on: &Expr,
 ) -> Result<Joined, Refusal>
-    ensures { Gives (spec.joined_on binder.now.tables.now binder.now.variables.now first kind other.now on.now) result }
+    ensures { Gives (among binder.now spec.joined_on first kind other.now on.now) result }
 {
-    let Sourced {
-        source: left,
-        shape,
-    } = first;
-    let (sources, second) = second_of(binder, shape, other)?;
-    joined_pair(binder, (left, sources), kind, second, on)
+    let second = one_source(binder, false, from_ref(&first.shape), other);
+    let (second, first) = with_held(second, first)?;
+    joined_pair(binder, first, kind, second, on)
 }
 
 /// The row of the first source, and the version that stands behind it, whose tuple sees that row.
@@ -436,11 +468,12 @@ fn version_behind(
     other: &VersionSource,
 ) -> Result<(List<Shape>, Sourced), Refusal>
     ensures { MatchResult result
-        (λ made. (made.0 ≡ first ∷ []) × (spec.version_source binder.now.tables.now binder.now.variables.now (first ∷ []) (row_of (first ∷ [])) other.now ≡ Ok made.1))
-        (λ refusal. refusal ≢ no_memory → spec.version_source binder.now.tables.now binder.now.variables.now (first ∷ []) (row_of (first ∷ [])) other.now ≡ Err refusal) }
+        (λ made. (made.0 ≡ first ∷ []) × (among binder.now spec.version_source (first ∷ []) (row_of (first ∷ [])) other.now ≡ Ok made.1))
+        (λ refusal. refusal ≢ no_memory → among binder.now spec.version_source (first ∷ []) (row_of (first ∷ [])) other.now ≡ Err refusal) }
 {
-    let place = one_row(binder.alloc, first)?;
-    let second = version_source(binder, place.sources.as_slice(), &place, other)?;
+    let place = Place::row(binder.alloc, one_shape(binder.alloc, first)?);
+    let second = version_source(binder, place.sources.as_slice(), &place, other);
+    let (second, place) = with_held(second, place)?;
     Ok((place.sources, second))
 }
 
@@ -457,49 +490,71 @@ fn applied_pair(
         source: right,
         shape,
     } = second;
-    let place = longer_row(alloc, sources, shape)?;
-    Ok(pair(left, right, Join::Apply, None, place.sources))
+    let (shapes, (left, right)) = with_held(longer(sources, shape), (left, right))?;
+    Ok(Joined {
+        left: Some(left),
+        right: Some(right),
+        join: Join::Apply,
+        on: None,
+        shapes,
+    })
 }
 
 #[tactic(auto, unfolding(crate::specs::Sources::applied))]
 fn applied(binder: &Binder<'_>, first: Sourced, other: &VersionSource) -> Result<Joined, Refusal>
-    ensures { Gives (spec.applied binder.now.tables.now binder.now.variables.now first other.now) result }
+    ensures { Gives (among binder.now spec.applied first other.now) result }
 {
     let Sourced {
         source: left,
         shape,
     } = first;
-    let (sources, second) = version_behind(binder, shape, other)?;
+    let second = version_behind(binder, shape, other);
+    let ((sources, second), left) = with_held(second, left)?;
     Ok(applied_pair(binder.alloc, left, sources, second)?)
+}
+
+/// A source that stands alone.
+fn alone(alloc: Global, first: Sourced) -> Result<Joined, Memory>
+    ensures { IfOk result (λ made. made ≡ spec.alone first) }
+{
+    let Sourced { source, shape } = first;
+    let (shapes, source) = with_held(one_shape(alloc, shape), source)?;
+    Ok(Joined {
+        left: Some(source),
+        right: None,
+        join: Join::One,
+        on: None,
+        shapes,
+    })
+}
+
+/// The first source, joined with a second one.
+fn joined_with(binder: &Binder<'_>, first: Sourced, join: &JoinClause) -> Result<Joined, Refusal>
+    ensures { Gives (among binder.now spec.joined_with first join.now) result }
+{
+    match join {
+        JoinClause::On {
+            kind,
+            source,
+            condition,
+        } => joined_on(binder, first, *kind, source, condition),
+        JoinClause::Apply(other) => applied(binder, first, other),
+    }
 }
 
 /// What FROM comes to.
 #[tactic(auto, unfolding(crate::specs::Sources::joined))]
 pub(crate) fn join_sources(binder: &Binder<'_>, from: &FromClause) -> Result<Joined, Refusal>
-    ensures { Gives (spec.joined binder.now.tables.now binder.now.variables.now from.now) result }
+    ensures { Gives (among binder.now spec.joined from.now) result }
 {
     match &from.join {
         None => {
             let first = one_source(binder, true, &[], &from.source)?;
-            let place = one_row(binder.alloc, first.shape)?;
-            Ok(Joined {
-                left: Some(first.source),
-                right: None,
-                join: Join::One,
-                on: None,
-                shapes: place.sources,
-            })
+            Ok(alone(binder.alloc, first)?)
         }
         Some(join) => {
             let first = one_source(binder, false, &[], &from.source)?;
-            match join {
-                JoinClause::On {
-                    kind,
-                    source,
-                    condition,
-                } => joined_on(binder, first, *kind, source, condition),
-                JoinClause::Apply(other) => applied(binder, first, other),
-            }
+            joined_with(binder, first, join)
         }
     }
 }

@@ -1,12 +1,15 @@
 ghost use Rattle.std.specs.Prelude.{◌≡◌, IfOk};
 ghost use Rattle.ct_types.specs.Answers.{Gives, optional};
+ghost use Rattle.ct_bind_expr.specs.Among.{among};
 ghost use Rattle.ct_bind.specs.Binding as spec;
 ghost use Rattle.ct_bind.specs.Limits.{HaveFewColumns, KeepsLimits};
 
+use crate::hold::with_held;
 use crate::queries::select;
+use crate::sources::{optional_as, walked_as};
 use crate::writes::write_of;
 use ct_bind_definition::{alter_database, create, disable, enable};
-use ct_bind_expr::{Binder, Place, of_kind};
+use ct_bind_expr::{Binder, Place};
 use ct_bind_kinds::{Kind, kind_of_type};
 use ct_bind_names::{column_type, declared_variable, existing_table, is_declared};
 use ct_types::{
@@ -27,7 +30,7 @@ fn kind_of_name(name: &TypeName) -> Kind
 
 #[tactic(auto, unfolding(crate::specs::Binding::truncate))]
 fn truncate(binder: &Binder<'_>, name: &ObjectName) -> Result<Bound, Refusal>
-    ensures { Gives (spec.truncate binder.now.tables.now binder.now.variables.now name.now) result }
+    ensures { Gives (among binder.now spec.truncate name.now) result }
 {
     let table = existing_table(binder.alloc, binder.tables, name)?;
     Ok(Bound::TruncateTable {
@@ -36,31 +39,29 @@ fn truncate(binder: &Binder<'_>, name: &ObjectName) -> Result<Bound, Refusal>
 }
 
 /// A value without a row, of this kind.
-#[tactic(auto, unfolding(crate::specs::Binding::value_of))]
+#[tactic(auto, unfolding(crate::specs::Binding::value_of, ct_bind_expr::specs::Versions::operand))]
 fn value_of(binder: &Binder<'_>, kind: Kind, value: &Expr) -> Result<BoundExpr, Refusal>
-    ensures { Gives (spec.value_of binder.now.tables.now binder.now.variables.now kind value.now) result }
+    ensures { Gives (among binder.now spec.value_of kind value.now) result }
 {
     let place = Place::row(binder.alloc, List::new(binder.alloc));
-    let it = binder.walk(&place, value)?;
-    of_kind(kind, it)
+    walked_as(binder, kind, &place, value)
 }
 
+#[tactic(auto, unfolding(crate::specs::Binding::value_of, ct_bind_expr::specs::Versions::operand))]
 fn optional_value(
     binder: &Binder<'_>,
     kind: Kind,
     value: &Option<Expr>,
 ) -> Result<Option<BoundExpr>, Refusal>
-    ensures { Gives (optional (spec.value_of binder.now.tables.now binder.now.variables.now kind) value.now) result }
+    ensures { Gives (optional (among binder.now spec.value_of kind) value.now) result }
 {
-    match value {
-        None => Ok(None),
-        Some(value) => Ok(Some(value_of(binder, kind, value)?)),
-    }
+    let place = Place::row(binder.alloc, List::new(binder.alloc));
+    optional_as(binder, kind, &place, value)
 }
 
 #[tactic(auto, unfolding(crate::specs::Binding::set_variable))]
 fn set_variable(binder: &Binder<'_>, name: &Text, value: &Expr) -> Result<Bound, Refusal>
-    ensures { Gives (spec.set_variable binder.now.tables.now binder.now.variables.now name.now value.now) result }
+    ensures { Gives (among binder.now spec.set_variable name.now value.now) result }
 {
     let (variable, kind) = declared_variable(binder.alloc, binder.variables, name)?;
     let value = value_of(binder, kind_of_type(kind), value)?;
@@ -74,7 +75,7 @@ fn declare(
     kind: &TypeName,
     value: &Option<Expr>,
 ) -> Result<Bound, Refusal>
-    ensures { Gives (spec.declare binder.now.tables.now binder.now.variables.now name.now kind.now value.now) result }
+    ensures { Gives (among binder.now spec.declare name.now kind.now value.now) result }
 {
     if is_declared(binder.variables, name) {
         return Err(Refusal::VariableExists {
@@ -82,9 +83,10 @@ fn declare(
         });
     }
     let value = optional_value(binder, kind_of_name(kind), value)?;
-    let kind = column_type(kind)?;
+    let (kind, value) = with_held(column_type(kind), value)?;
+    let (variable, value) = with_held(name.copy(binder.alloc), value)?;
     Ok(Bound::Declare {
-        variable: name.copy(binder.alloc)?,
+        variable,
         kind,
         value,
     })
@@ -92,7 +94,7 @@ fn declare(
 
 fn bind_stmt(binder: &Binder<'_>, keep: Option<Keep>, stmt: &Stmt) -> Result<Bound, Refusal>
     requires { HaveFewColumns binder.now.tables.now }
-    ensures { Gives (spec.binding_by binder.now.tables.now binder.now.variables.now keep stmt.now) result }
+    ensures { Gives (among binder.now spec.binding_by keep stmt.now) result }
 {
     let alloc = binder.alloc;
     let tables = binder.tables;

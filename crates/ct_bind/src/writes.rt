@@ -1,13 +1,15 @@
-ghost use Rattle.std.specs.Prelude.{◌≡◌, ◌≤◌, [], map, length, IfOk};
+ghost use Rattle.std.specs.Prelude.{◌≡◌, ◌≤◌, [], map, length, Ok, Err, IfOk, MatchResult};
 ghost use Rattle.ct_types.specs.Answers.{Gives, Lends, each, each_after, optional};
 ghost use Rattle.ct_bind_names.specs.Names.{same, table_name as name_of};
 ghost use Rattle.ct_bind_names.specs.Catalogue.{existing_table as table_of};
+ghost use Rattle.ct_bind_expr.specs.Among.{among};
 ghost use Rattle.ct_bind.specs.Limits.{HaveFewColumns};
 ghost use Rattle.ct_bind.specs.Writes as spec;
 
+use crate::hold::with_held;
 use crate::queries::filter_of;
-use crate::sources::{source_name, table_shape};
-use ct_bind_expr::{Binder, Place, of_kind};
+use crate::sources::{one_shape, optional_as, source_name, table_shape, walked_as};
+use ct_bind_expr::{Binder, Place};
 use ct_bind_kinds::{Kind, kind_of_type};
 use ct_bind_names::{existing_table, is_among, last_part, same_name, table_name};
 use ct_types::{
@@ -18,7 +20,7 @@ use sqlite_items::Items;
 use std::alloc::Global;
 
 /// A column that is written: its id and the kind of its values.
-#[derive(Clone, Copy, Debug, PartialEq, Eq)]
+#[derive(Clone, Copy)]
 pub(crate) struct Target {
     pub(crate) column: u16,
     pub(crate) kind: Kind,
@@ -126,15 +128,18 @@ fn insert_targets(
 fn is_set(name: &Text, before: &[SetColumn]) -> bool
     ensures { result ≡ spec.is_set name.now before.now }
 {
-    before
-        .iter()
-        .any(|other| same_name(name.as_str(), other.column.as_str()))
+    for set in before {
+        if same_name(name.as_str(), set.column.as_str()) {
+            return true;
+        }
+    }
+    false
 }
 
 fn is_key(table: &Schema, column: u16) -> bool
     ensures { result ≡ spec.is_key table.now column }
 {
-    table.key.as_slice().iter().any(|id| *id == column)
+    table.key.as_slice().contains(&column)
 }
 
 /// The column of a SET: 207, ambiguous where it is set before, KeyUpdate where it is of the key.
@@ -197,29 +202,18 @@ fn updated_name<'a>(
 fn row_named(alloc: Global, name: &Text, table: &Schema) -> Result<Place, Memory>
     ensures { IfOk result (λ place. place ≡ spec.row_named name.now table.now) }
 {
-    let mut sources = List::new(alloc);
-    sources.push(table_shape(alloc, name, table)?)?;
-    Ok(Place::row(alloc, sources))
+    let shape = table_shape(alloc, name, table)?;
+    Ok(Place::row(alloc, one_shape(alloc, shape)?))
 }
 
-#[tactic(auto, unfolding(crate::specs::Writes::context_of))]
-fn context_of(binder: &Binder<'_>, context: &Expr) -> Result<BoundExpr, Refusal>
-    ensures { Gives (spec.context_of binder.now.tables.now binder.now.variables.now context.now) result }
-{
-    let it = binder.walk(&Place::closed(binder.alloc), context)?;
-    of_kind(Kind::Bytes, it)
-}
-
+#[tactic(auto, unfolding(crate::specs::Writes::context_of, ct_bind_expr::specs::Versions::operand))]
 fn optional_context(
     binder: &Binder<'_>,
     context: &Option<Expr>,
 ) -> Result<Option<BoundExpr>, Refusal>
-    ensures { Gives (optional (spec.context_of binder.now.tables.now binder.now.variables.now) context.now) result }
+    ensures { Gives (optional (among binder.now spec.context_of) context.now) result }
 {
-    match context {
-        None => Ok(None),
-        Some(context) => Ok(Some(context_of(binder, context)?)),
-    }
+    optional_as(binder, Kind::Bytes, &Place::closed(binder.alloc), context)
 }
 
 fn kinds_of(alloc: Global, targets: &[Target]) -> Result<List<Kind>, Memory>
@@ -248,7 +242,7 @@ fn tuple_of(
     targets: &[Target],
     values: &[Expr],
 ) -> Result<Items<BoundExpr>, Refusal>
-    ensures { Gives (spec.tuple_of binder.now.tables.now binder.now.variables.now targets.now values.now) result }
+    ensures { Gives (among binder.now spec.tuple_of targets.now values.now) result }
 {
     let kinds = kinds_of(binder.alloc, targets)?;
     let place = Place::closed(binder.alloc);
@@ -261,7 +255,7 @@ fn tuples_of(
     targets: &[Target],
     tuples: &[Items<Expr>],
 ) -> Result<List<Items<BoundExpr>>, Refusal>
-    ensures { Gives (each (spec.tuple_of binder.now.tables.now binder.now.variables.now targets.now) tuples.now) result }
+    ensures { Gives (each (among binder.now spec.tuple_of targets.now) tuples.now) result }
 {
     let mut made = List::new(binder.alloc);
     for values in tuples {
@@ -279,20 +273,19 @@ fn insert_change(
     tuples: &[Items<Expr>],
 ) -> Result<RowChange, Refusal>
     requires { length table.now.columns ≤ 64 }
-    ensures { Gives (spec.insert_change binder.now.tables.now binder.now.variables.now table.now columns.now tuples.now) result }
+    ensures { Gives (among binder.now spec.insert_change table.now columns.now tuples.now) result }
 {
     let targets = insert_targets(binder.alloc, table, columns)?;
     if tuples.len() > 1000 {
         return Err(Refusal::TooMany { limit: 1000 });
     }
     let tuples = tuples_of(binder, targets.as_slice(), tuples)?;
-    Ok(RowChange::Insert {
-        columns: ids_of(binder.alloc, targets.as_slice())?,
-        tuples,
-    })
+    let columns = ids_of(binder.alloc, targets.as_slice());
+    let (columns, tuples) = with_held(columns, tuples)?;
+    Ok(RowChange::Insert { columns, tuples })
 }
 
-#[tactic(auto, unfolding(crate::specs::Writes::set_of))]
+#[tactic(auto, unfolding(crate::specs::Writes::set_of, ct_bind_expr::specs::Versions::operand))]
 fn set_of(
     binder: &Binder<'_>,
     table: &Schema,
@@ -301,11 +294,10 @@ fn set_of(
     it: &SetColumn,
 ) -> Result<BoundSet, Refusal>
     requires { length table.now.columns ≤ 64 }
-    ensures { Gives (spec.set_of binder.now.tables.now binder.now.variables.now table.now place.now before.now it.now) result }
+    ensures { Gives (among binder.now spec.set_of table.now place.now before.now it.now) result }
 {
     let target = set_target(binder.alloc, table, before, &it.column)?;
-    let value = binder.walk(place, &it.value)?;
-    let value = of_kind(target.kind, value)?;
+    let value = walked_as(binder, target.kind, place, &it.value)?;
     Ok(BoundSet {
         column: target.column,
         value,
@@ -320,7 +312,7 @@ fn sets_of(
     sets: &[SetColumn],
 ) -> Result<List<BoundSet>, Refusal>
     requires { length table.now.columns ≤ 64 }
-    ensures { Gives (each_after (spec.set_of binder.now.tables.now binder.now.variables.now table.now place.now) [] sets.now) result }
+    ensures { Gives (each_after (among binder.now spec.set_of table.now place.now) [] sets.now) result }
 {
     let mut made = List::new(binder.alloc);
     for at in 0..sets.len() {
@@ -330,32 +322,55 @@ fn sets_of(
     Ok(made)
 }
 
+/// A change of the table's rows, under this name.
 #[tactic(auto, unfolding(crate::specs::Writes::update_change))]
 fn update_change(
     binder: &Binder<'_>,
     table: &Schema,
-    place: &Place,
+    name: &Text,
     sets: &[SetColumn],
     filter: &Option<Expr>,
 ) -> Result<RowChange, Refusal>
     requires { length table.now.columns ≤ 64 }
-    ensures { Gives (spec.update_change binder.now.tables.now binder.now.variables.now table.now place.now sets.now filter.now) result }
+    ensures { Gives (among binder.now spec.update_change table.now (spec.row_named name.now table.now) sets.now filter.now) result }
 {
-    let sets = sets_of(binder, table, place, sets)?;
-    let filter = filter_of(binder, place, filter)?;
+    let place = row_named(binder.alloc, name, table)?;
+    let (sets, place) = with_held(sets_of(binder, table, &place, sets), place)?;
+    let (filter, (sets, _place)) = with_held(filter_of(binder, &place, filter), (sets, place))?;
     Ok(RowChange::Update { sets, filter })
 }
 
+/// A removal of the table's rows, under this name.
 #[tactic(auto, unfolding(crate::specs::Writes::delete_change))]
 fn delete_change(
     binder: &Binder<'_>,
-    place: &Place,
+    table: &Schema,
+    name: &Text,
     filter: &Option<Expr>,
 ) -> Result<RowChange, Refusal>
-    ensures { Gives (spec.delete_change binder.now.tables.now binder.now.variables.now place.now filter.now) result }
+    ensures { Gives (among binder.now spec.delete_change (spec.row_named name.now table.now) filter.now) result }
 {
-    let filter = filter_of(binder, place, filter)?;
+    let place = row_named(binder.alloc, name, table)?;
+    let (filter, _place) = with_held(filter_of(binder, &place, filter), place)?;
     Ok(RowChange::Delete { filter })
+}
+
+/// The write of a change, where there is one.
+fn written(
+    table: &Schema,
+    context: Option<BoundExpr>,
+    change: Result<RowChange, Refusal>,
+) -> Result<BoundWrite, Refusal>
+    ensures { MatchResult result
+        (λ made. (change ≡ Ok made.change) × (made ≡ record { table = table.now.id; context = context; change = made.change }))
+        (λ refusal. change ≡ Err refusal) }
+{
+    let (change, context) = with_held(change, context)?;
+    Ok(BoundWrite {
+        table: table.id,
+        context,
+        change,
+    })
 }
 
 /// The table that is written, which has few columns as all have.
@@ -377,16 +392,12 @@ fn insert(
     tuples: &[Items<Expr>],
 ) -> Result<BoundWrite, Refusal>
     requires { HaveFewColumns binder.now.tables.now }
-    ensures { Gives (spec.insert binder.now.tables.now binder.now.variables.now context.now name.now columns.now tuples.now) result }
+    ensures { Gives (among binder.now spec.insert context.now name.now columns.now tuples.now) result }
 {
     let table = written_table(binder, name)?;
     let context = optional_context(binder, context)?;
-    let change = insert_change(binder, &table.schema, columns, tuples)?;
-    Ok(BoundWrite {
-        table: table.schema.id,
-        context,
-        change,
-    })
+    let change = insert_change(binder, &table.schema, columns, tuples);
+    written(&table.schema, context, change)
 }
 
 #[tactic(auto, unfolding(crate::specs::Writes::update))]
@@ -399,18 +410,13 @@ fn update(
     filter: &Option<Expr>,
 ) -> Result<BoundWrite, Refusal>
     requires { HaveFewColumns binder.now.tables.now }
-    ensures { Gives (spec.update binder.now.tables.now binder.now.variables.now context.now name.now sets.now from.now filter.now) result }
+    ensures { Gives (among binder.now spec.update context.now name.now sets.now from.now filter.now) result }
 {
     let table = written_table(binder, name)?;
     let row = updated_name(binder.alloc, name, from)?;
     let context = optional_context(binder, context)?;
-    let place = row_named(binder.alloc, row, &table.schema)?;
-    let change = update_change(binder, &table.schema, &place, sets, filter)?;
-    Ok(BoundWrite {
-        table: table.schema.id,
-        context,
-        change,
-    })
+    let change = update_change(binder, &table.schema, row, sets, filter);
+    written(&table.schema, context, change)
 }
 
 #[tactic(auto, unfolding(crate::specs::Writes::delete))]
@@ -420,17 +426,12 @@ fn delete(
     name: &ObjectName,
     filter: &Option<Expr>,
 ) -> Result<BoundWrite, Refusal>
-    ensures { Gives (spec.delete binder.now.tables.now binder.now.variables.now context.now name.now filter.now) result }
+    ensures { Gives (among binder.now spec.delete context.now name.now filter.now) result }
 {
     let table = existing_table(binder.alloc, binder.tables, name)?;
     let context = optional_context(binder, context)?;
-    let place = row_named(binder.alloc, last_part(name), &table.schema)?;
-    let change = delete_change(binder, &place, filter)?;
-    Ok(BoundWrite {
-        table: table.schema.id,
-        context,
-        change,
-    })
+    let change = delete_change(binder, &table.schema, last_part(name), filter);
+    written(&table.schema, context, change)
 }
 
 /// What an INSERT, UPDATE or DELETE comes to.
@@ -441,7 +442,7 @@ pub(crate) fn write_of(
     write: &WriteStmt,
 ) -> Result<BoundWrite, Refusal>
     requires { HaveFewColumns binder.now.tables.now }
-    ensures { Gives (spec.write_of binder.now.tables.now binder.now.variables.now context.now write.now) result }
+    ensures { Gives (among binder.now spec.write_of context.now write.now) result }
 {
     match write {
         WriteStmt::Insert {

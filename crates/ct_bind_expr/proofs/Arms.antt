@@ -1,6 +1,9 @@
 -- What each form comes to at a place by what its parts come to there, and so what its code gives.
 use Rattle.std.proofs.Common.{◌≡◌, ℕ, List, map, Ok, Err, refl, sym, ap, ◌∙◌, subst}
+use Rattle.ct_types.specs.declared.bound.BoundExpr.{BoundExpr}
 use Rattle.ct_types.specs.declared.bound.BoundExpr.TheVariants as bound
+use Rattle.ct_types.specs.declared.bound.BoundRowVersion.{BoundRowVersion}
+use Rattle.ct_types.specs.declared.bound.BoundTerm.{BoundTerm}
 use Rattle.ct_types.specs.declared.catalogue.Catalogued.{Catalogued}
 use Rattle.ct_types.specs.declared.catalogue.Variable.{Variable}
 use Rattle.ct_types.specs.declared.expr.ColumnName.{ColumnName}
@@ -12,18 +15,22 @@ use Rattle.ct_types.specs.declared.expr.Expr.TheFolds.{fold-roll-Expr}
 use Rattle.ct_types.specs.declared.expr.RowVersion.{RowVersion}
 use Rattle.ct_types.specs.declared.expr.Scalar.{Scalar}
 use Rattle.ct_types.specs.declared.expr.Term.{Term}
+use Rattle.ct_types.specs.declared.refusal.Refusal.{Refusal}
+use Rattle.ct_types.specs.declared.schema.Schema.{Schema}
+use Rattle.ct_bind_kinds.specs.declared.kind.Kind.{Kind}
 use Rattle.ct_bind_kinds.specs.declared.kind.Kind.TheVariants.{Number, Condition, Null}
+use Rattle.ct_bind_names.specs.Catalogue.{tracked_table}
 use Rattle.ct_types.specs.Answers.{Answer, ◌>>=◌, Gives}
 use Rattle.ct_bind_expr.specs.declared.place.Typed.{Typed}
-use Rattle.ct_bind_expr.specs.declared.place.WalkedTerm.{WalkedTerm}
 use Rattle.ct_bind_expr.specs.declared.place.Place.{Place}
 use Rattle.ct_bind_expr.specs.Places.{typed, column}
-use Rattle.ct_bind_expr.specs.Versions.{Walk}
+use Rattle.ct_bind_expr.specs.Versions.{Walk, version_of}
 use Rattle.ct_bind_expr.specs.Walk as spec
 use Rattle.ct_bind_expr.specs.Walk.{VersionWalk, TermWalk, walk, version_walk, scalar_walk, term_walk, expr_rule, version_rule, scalar_rule, term_rule, two, property, sum_typed}
-use Rattle.ct_bind_expr.specs.Walked.{both, three, of_one, of_two, of_three, of_chain, of_sum, scalar_with}
-use Rattle.ct_bind_expr.proofs.Gives.{gives_one, gives_both, gives_three, gives_sum}
-use Rattle.ct_bind_expr.proofs.Walked.{chain_at, sum_at, at_term, scalar_at}
+use Rattle.ct_bind_expr.specs.Walked.{both, of_one, of_two, of_three, of_chain, of_sum, scalar_of, walked}
+use Rattle.ct_bind_expr.proofs.Gives.{gives_one, gives_both, gives_exact, gives_same}
+use Rattle.ct_bind_expr.proofs.Steps.{gives_sum}
+use Rattle.ct_bind_expr.proofs.Walked.{scalar_opens}
 
 three_of : (rule : Typed → Typed → Typed → Answer Typed) (a b c : Answer Typed) → (both a b >>= (λ it. c >>= rule it.0 it.1)) ≡ of_three rule a b c
 three_of rule (Err refusal) b c = refl
@@ -126,45 +133,63 @@ module _ (tables : List Catalogued) (variables : List Variable) (place : Place) 
       → Gives (come got_a) given_a → Gives (come got_b) given_b → Gives (come got_c) given_c → Gives (of_three spec.column_property given_a given_b given_c) result → Gives (come y) result
   arm_three y a b c got_a got_b got_c given_a given_b given_c result is same_a same_b same_c first second third whole =
       let P : Answer Typed → Type 0 = λ w. Gives w result in
-      let rule = λ (it : Typed × Typed × Typed). spec.column_property it.0 it.1 it.2 in
+      let rule = λ (it : Typed × (Typed × Typed)). spec.column_property it.0 it.1.0 it.1.1 in
       subst P (sym (ap come is ∙ opens_ColumnProperty a b c ∙ ap (λ g. of_three spec.column_property (come g) (come b) (come c)) (sym same_a)
       ∙ ap (λ g. of_three spec.column_property (come got_a) (come g) (come c)) (sym same_b) ∙ ap (λ g. of_three spec.column_property (come got_a) (come got_b) (come g)) (sym same_c)))
-      (gives_one (three (come got_a) (come got_b) (come got_c)) (three given_a given_b given_c) rule result
-      (gives_three (come got_a) given_a (come got_b) given_b (come got_c) given_c first second third) whole)
+      (gives_one (both (come got_a) (both (come got_b) (come got_c))) (both given_a (both given_b given_c)) rule result
+      (gives_both (come got_a) given_a (both (come got_b) (come got_c)) (both given_b given_c) first (gives_both (come got_b) given_b (come got_c) given_c second third)) whole)
 
   -- ---- chains, sums and scalar forms
 
-  pub opens_Product : (all : List Expr) → come (form.Product all) ≡ of_chain Number bound.Product (map come all)
-  opens_Product all = ap come (sym (form.rolls-Product all)) ∙ layer (e.Product all) ∙ ap (λ it. it >>= (λ made. Ok (typed (bound.Product made) Number))) (chain_at (walk tables variables) Number place all)
+  abbrev chained : Kind → List Expr → Answer (List BoundExpr)
+  chained wanted all = spec.chain wanted place (map (walk tables variables) all)
 
-  pub opens_And : (all : List Expr) → come (form.And all) ≡ of_chain Condition bound.And (map come all)
-  opens_And all = ap come (sym (form.rolls-And all)) ∙ layer (e.And all) ∙ ap (λ it. it >>= (λ made. Ok (typed (bound.And made) Condition))) (chain_at (walk tables variables) Condition place all)
+  pub opens_Product : (all : List Expr) → come (form.Product all) ≡ of_chain Number bound.Product (chained Number all)
+  opens_Product all = ap come (sym (form.rolls-Product all)) ∙ layer (e.Product all)
 
-  pub opens_Or : (all : List Expr) → come (form.Or all) ≡ of_chain Condition bound.Or (map come all)
-  opens_Or all = ap come (sym (form.rolls-Or all)) ∙ layer (e.Or all) ∙ ap (λ it. it >>= (λ made. Ok (typed (bound.Or made) Condition))) (chain_at (walk tables variables) Condition place all)
+  pub opens_And : (all : List Expr) → come (form.And all) ≡ of_chain Condition bound.And (chained Condition all)
+  opens_And all = ap come (sym (form.rolls-And all)) ∙ layer (e.And all)
 
-  pub arm_all : (make : List Expr → Expr) (rule : List (Answer Typed) → Answer Typed) → ((all : List Expr) → come (make all) ≡ rule (map come all))
-      → (y : Expr) (all got : List Expr) (given : List (Answer Typed)) (result : Answer Typed) → y ≡ make all → got ≡ all → given ≡ map come got → Gives (rule given) result → Gives (come y) result
-  arm_all make rule opens y all got given result is same each whole =
+  pub opens_Or : (all : List Expr) → come (form.Or all) ≡ of_chain Condition bound.Or (chained Condition all)
+  opens_Or all = ap come (sym (form.rolls-Or all)) ∙ layer (e.Or all)
+
+  pub arm_chain : (make : List Expr → Expr) (wanted : Kind) (made : List BoundExpr → BoundExpr) → ((all : List Expr) → come (make all) ≡ of_chain wanted made (chained wanted all))
+      → (y : Expr) (all got : List Expr) (given : Answer (List BoundExpr)) (result : Answer Typed) → y ≡ make all → got ≡ all → Gives (chained wanted got) given → result ≡ of_chain wanted made given → Gives (come y) result
+  arm_chain make wanted made opens y all got given result is same operands whole =
       let P : Answer Typed → Type 0 = λ w. Gives w result in
-      subst P (sym (ap come is ∙ opens all ∙ ap (λ g. rule (map come g)) (sym same) ∙ ap rule (sym each))) whole
+      subst P (sym (ap come is ∙ opens all ∙ ap (λ g. of_chain wanted made (chained wanted g)) (sym same)))
+      (gives_one (chained wanted got) given (λ all. Ok (typed (made all) wanted)) result operands (gives_exact (of_chain wanted made given) result whole))
 
-  pub opens_Sum : (first : Expr) (more : List Term) → come (form.Sum first more) ≡ of_sum (come first) (map (at_term tables variables place) more)
-  opens_Sum first more = ap come (sym (form.rolls-Sum first more)) ∙ layer (e.Sum first more) ∙ ap (λ it. it >>= (λ made. Ok (sum_typed made.0 made.1))) (sum_at tables variables place first more)
+  abbrev summed : Expr → List Term → Answer (BoundExpr × List BoundTerm)
+  summed first more = spec.sum place (walk tables variables first) (map (term_walk tables variables) more)
 
-  pub arm_sum : (y first got : Expr) (more got_more : List Term) (given : Answer Typed) (given_more : List WalkedTerm) (result : Answer Typed) → y ≡ form.Sum first more → got ≡ first → got_more ≡ more
-      → Gives (come got) given → given_more ≡ map (at_term tables variables place) got_more → Gives (of_sum given given_more) result → Gives (come y) result
-  arm_sum y first got more got_more given given_more result is same same_more at_first at_more whole =
+  pub opens_Sum : (first : Expr) (more : List Term) → come (form.Sum first more) ≡ of_sum (summed first more)
+  opens_Sum first more = ap come (sym (form.rolls-Sum first more)) ∙ layer (e.Sum first more)
+
+  pub arm_sum : (y first got : Expr) (more got_more : List Term) (left : Answer Typed) (given : Answer (BoundExpr × List BoundTerm)) (result : Answer Typed) → y ≡ form.Sum first more → got ≡ first → got_more ≡ more
+      → Gives (come got) left → Gives (spec.sum place (walked left) (map (term_walk tables variables) got_more)) given → Gives (of_sum given) result → Gives (come y) result
+  arm_sum y first got more got_more left given result is same same_more at_first operands whole =
       let P : Answer Typed → Type 0 = λ w. Gives w result in
-      subst P (sym (ap come is ∙ opens_Sum first more ∙ ap (λ g. of_sum (come g) (map (at_term tables variables place) more)) (sym same)
-      ∙ ap (λ g. of_sum (come got) (map (at_term tables variables place) g)) (sym same_more) ∙ ap (of_sum (come got)) (sym at_more)))
-      (gives_sum (come got) given given_more result at_first whole)
+      subst P (sym (ap come is ∙ opens_Sum first more ∙ ap (λ g. of_sum (summed g more)) (sym same) ∙ ap (λ g. of_sum (summed got g)) (sym same_more)))
+      (gives_one (summed got got_more) given (λ it. Ok (sum_typed it.0 it.1)) result
+      (gives_sum place (walk tables variables got) left (map (term_walk tables variables) got_more) given at_first operands) whole)
 
-  pub opens_Scalar : (s : Scalar) → come (form.Scalar s) ≡ scalar_with tables s (map come s.version.values)
-  opens_Scalar s = ap come (sym (form.rolls-Scalar s)) ∙ layer (e.Scalar s) ∙ scalar_at tables variables place s
+  abbrev versioned : Schema → Scalar → Answer BoundRowVersion
+  versioned table s = version_of table s.version.columns (map (walk tables variables) s.version.values) place
 
-  pub arm_scalar : (y : Expr) (s got : Scalar) (values : List Expr) (given : List (Answer Typed)) (result : Answer Typed) → y ≡ form.Scalar s → got ≡ s → values ≡ got.version.values
-      → given ≡ map come values → Gives (scalar_with tables got given) result → Gives (come y) result
-  arm_scalar y s got values given result is same are each whole =
+  pub opens_Scalar : (s : Scalar) → come (form.Scalar s) ≡ (tracked_table tables s.version.table >>= (λ it. scalar_of it.schema s (versioned it.schema s)))
+  opens_Scalar s = ap come (sym (form.rolls-Scalar s)) ∙ layer (e.Scalar s) ∙ scalar_opens tables variables place s
+
+  pub arm_scalar : (y : Expr) (s got : Scalar) (table : Catalogued) (names : List (List ℕ)) (values : List Expr) (version : Answer BoundRowVersion) (result : Answer Typed) → y ≡ form.Scalar s → got ≡ s
+      → tracked_table tables got.version.table ≡ Ok table → names ≡ got.version.columns → values ≡ got.version.values → Gives (version_of table.schema names (map (walk tables variables) values) place) version
+      → Gives (scalar_of table.schema got version) result → Gives (come y) result
+  arm_scalar y s got table names values version result is same found are_names are_values bound whole =
       let P : Answer Typed → Type 0 = λ w. Gives w result in
-      subst P (sym (ap come (is ∙ ap form.Scalar (sym same)) ∙ opens_Scalar got ∙ ap (λ vs. scalar_with tables got (map come vs)) (sym are) ∙ ap (scalar_with tables got) (sym each))) whole
+      let given : Gives (versioned table.schema got) version = gives_same (versioned table.schema got) (version_of table.schema names (map (walk tables variables) values) place) version
+      (ap (λ names. version_of table.schema names (map (walk tables variables) got.version.values) place) (sym are_names) ∙ ap (λ values. version_of table.schema names (map (walk tables variables) values) place) (sym are_values)) bound in
+      subst P (sym (ap come (is ∙ ap form.Scalar (sym same)) ∙ opens_Scalar got ∙ ap (λ it. it >>= (λ it. scalar_of it.schema got (versioned it.schema got))) found))
+      (gives_one (versioned table.schema got) version (spec.scalar_column table.schema got.source got.alias got.column) result given whole)
+
+  pub arm_untracked : (y : Expr) (s got : Scalar) (refusal : Refusal) → y ≡ form.Scalar s → got ≡ s → tracked_table tables got.version.table ≡ Err refusal → come y ≡ Err refusal
+  arm_untracked y s got refusal is same found =
+      ap come (is ∙ ap form.Scalar (sym same)) ∙ opens_Scalar got ∙ ap (λ it. it >>= (λ it. scalar_of it.schema got (versioned it.schema got))) found

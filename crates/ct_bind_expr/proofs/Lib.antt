@@ -1,7 +1,9 @@
 pub mod Arms
+pub mod Turns
 pub mod Gives
 pub mod Opened
 pub mod Parts
-pub mod Values
+pub mod Steps
+pub mod Taken
 pub mod Walked
 pub mod Forms

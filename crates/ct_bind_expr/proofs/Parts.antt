@@ -1,17 +1,16 @@
 -- A chain or a sum whose parts are walked: the first two parts, then each part in its place.
-use Rattle.std.proofs.Common.{◌≡◌, Bool, List, [], ◌∷◌, map, Ok, Err, refl, sym, ap, ◌∙◌}
-use Rattle.std.proofs.lemmas.List.{append-nil}
+use Rattle.std.proofs.Common.{◌≡◌, Bool, List, [], ◌∷◌, map, Ok, Err, refl}
 use Rattle.ct_types.specs.declared.bound.BoundExpr.{BoundExpr}
 use Rattle.ct_types.specs.declared.bound.BoundTerm.{BoundTerm}
 use Rattle.ct_bind_kinds.specs.declared.kind.Kind.{Kind}
 use Rattle.ct_bind_kinds.specs.declared.kind.Kind.TheVariants.{Number}
 use Rattle.ct_types.specs.Answers.{Answer, ◌>>=◌, ◌>>◌, each, onto}
 use Rattle.ct_bind_expr.specs.declared.place.Typed.{Typed}
-use Rattle.ct_bind_expr.specs.declared.place.WalkedTerm.{WalkedTerm}
+use Rattle.ct_bind_expr.specs.declared.place.Place.{Place}
 use Rattle.ct_bind_expr.specs.Places.{closed, of_kind}
-use Rattle.ct_bind_expr.specs.Versions.{operand, values}
-use Rattle.ct_bind_expr.specs.Walk.{two, both_of_kind, chain, term, further_term, sum}
-use Rattle.ct_bind_expr.specs.Walked.{walked, walked_term, both, first_two, first_term}
+use Rattle.ct_bind_expr.specs.Versions.{Walk, operand}
+use Rattle.ct_bind_expr.specs.Walk.{TermWalk, two, both_of_kind, chain, term, further_term, sum}
+use Rattle.ct_bind_expr.specs.Walked.{walked, both, made_of, extended, asked, asked_term, two_asked, first_two, begun, begun_sum, alone_in_sum}
 
 abbrev made_both : Answer BoundExpr → Answer BoundExpr → Answer (BoundExpr × BoundExpr)
 made_both a b = do
@@ -34,48 +33,48 @@ chain_walked wanted (Err refusal ∷ second ∷ more) = refl
 chain_walked wanted (Ok left ∷ Err refusal ∷ more) = refl
 chain_walked wanted (Ok left ∷ Ok right ∷ more) = two_of_chain (of_kind wanted left) (of_kind wanted right) (each (operand wanted closed) (map walked more))
 
-abbrev made_sum : BoundExpr → Answer (List BoundTerm) → Answer (BoundExpr × List BoundTerm)
-made_sum first more = do
-  more ← more
-  Ok (first, more)
+-- ---- a chain and a sum, once their first two parts are walked
 
-abbrev pub sum_with : Bool → BoundExpr × BoundExpr → Answer (List BoundTerm) → Answer (BoundExpr × List BoundTerm)
-sum_with subtracts both more = do
-  more ← more
-  Ok (both.0, term subtracts both.1 ∷ more)
+two_begun_given : (two : Answer (BoundExpr × BoundExpr)) (rest : Answer (List BoundExpr))
+    → (two >>= (λ two. rest >>= (λ more. Ok (two.0 ∷ two.1 ∷ more)))) ≡ (made_of begun two >>= (λ made. onto made rest))
+two_begun_given (Err refusal) rest = refl
+two_begun_given (Ok two) (Err refusal) = refl
+two_begun_given (Ok two) (Ok more) = refl
 
-two_of_sum : (subtracts : Bool) (a b : Answer BoundExpr) (rest : Answer (List BoundTerm))
-    → (made_both a b >>= (λ it. sum_with subtracts it rest)) ≡ (a >>= (λ x. made_sum x ((b >>= (λ y. Ok (term subtracts y))) >>= (λ t. rest >>= (λ more. Ok (t ∷ more))))))
-two_of_sum subtracts (Err refusal) b rest = refl
-two_of_sum subtracts (Ok x) (Err refusal) rest = refl
-two_of_sum subtracts (Ok x) (Ok y) (Err refusal) = refl
-two_of_sum subtracts (Ok x) (Ok y) (Ok more) = refl
+two_begun : (walked : Answer (Typed × Typed)) (rule : Typed × Typed → Answer (BoundExpr × BoundExpr)) (rest : Answer (List BoundExpr))
+    → (walked >>= (λ it. rule it >>= (λ two. rest >>= (λ more. Ok (two.0 ∷ two.1 ∷ more))))) ≡ (made_of begun (walked >>= rule) >>= (λ made. onto made rest))
+two_begun (Err refusal) rule rest = refl
+two_begun (Ok it) rule rest = two_begun_given (rule it) rest
 
--- the operands of a sum, once its first two are walked
-abbrev pub sum_then : Answer Typed → List WalkedTerm → Answer (BoundExpr × List BoundTerm)
-sum_then first more = do
-  it ← first
-  value ← of_kind Number it
-  made ← each (further_term closed) (map walked_term more)
-  Ok (value, made)
+pub chain_only : (wanted : Kind) (place : Place) (only : Walk) → chain wanted place (only ∷ []) ≡ extended [] (asked wanted (only place))
+unfolding chain operand
+chain_only wanted place only = refl
 
-second_term : (left : Typed) (subtracts : Bool) (right : Answer Typed) (more : List WalkedTerm)
-    → let all : List WalkedTerm = record { subtracts = subtracts; value = right } ∷ more in
-    sum closed (walked (Ok left)) (map walked_term all) ≡ (first_term (Ok left) all >> sum_then (Ok left) all)
-unfolding sum two both_of_kind operand further_term
-second_term left subtracts (Err refusal) more = refl
-second_term left subtracts (Ok right) more = two_of_sum subtracts (of_kind Number left) (of_kind Number right) (each (further_term closed) (map walked_term more))
+pub chain_two : (wanted : Kind) (place : Place) (left right : Walk) (more : List Walk)
+    → chain wanted place (left ∷ right ∷ more) ≡ (made_of begun (two_asked wanted (left place) (right place)) >>= (λ made. onto made (each (operand wanted place) more)))
+unfolding chain two
+chain_two wanted place left right more = two_begun (both (left place) (right place)) (λ it. both_of_kind wanted it.0 it.1) (each (operand wanted place) more)
 
-pub sum_walked : (first : Answer Typed) (more : List WalkedTerm) → sum closed (walked first) (map walked_term more) ≡ (first_term first more >> sum_then first more)
-unfolding sum two both_of_kind operand further_term
-sum_walked (Err refusal) [] = refl
-sum_walked (Ok left) [] = refl
-sum_walked (Err refusal) (second ∷ more) = refl
-sum_walked (Ok left) (second ∷ more) = second_term left second.subtracts second.value more
+two_summed_given : (subtracts : Bool) (two : Answer (BoundExpr × BoundExpr)) (rest : Answer (List BoundTerm))
+    → (two >>= (λ two. rest >>= (λ more. Ok (two.0, term subtracts two.1 ∷ more)))) ≡ (made_of (begun_sum subtracts) two >>= (λ it. both (Ok it.0) (onto it.1 rest)))
+two_summed_given subtracts (Err refusal) rest = refl
+two_summed_given subtracts (Ok two) (Err refusal) = refl
+two_summed_given subtracts (Ok two) (Ok more) = refl
 
--- no value is left
-pub values_ends : (kinds : List Kind) (left : List (Answer Typed)) (made : List BoundExpr) (whole : Answer (List BoundExpr))
-    → left ≡ [] → onto made (values closed kinds (map walked left)) ≡ whole → whole ≡ Ok made
-unfolding values
-values_ends [] left made whole none goes = sym goes ∙ ap (λ all. Ok all) (append-nil made)
-values_ends (kind ∷ kinds) left made whole none goes = sym goes ∙ ap (λ it. onto made (values closed (kind ∷ kinds) (map walked it))) none ∙ ap (λ all. Ok all) (append-nil made)
+two_summed : (subtracts : Bool) (walked : Answer (Typed × Typed)) (rule : Typed × Typed → Answer (BoundExpr × BoundExpr)) (rest : Answer (List BoundTerm))
+    → (walked >>= (λ it. rule it >>= (λ two. rest >>= (λ more. Ok (two.0, term subtracts two.1 ∷ more))))) ≡ (made_of (begun_sum subtracts) (walked >>= rule) >>= (λ it. both (Ok it.0) (onto it.1 rest)))
+two_summed subtracts (Err refusal) rule rest = refl
+two_summed subtracts (Ok it) rule rest = two_summed_given subtracts (rule it) rest
+
+pub sum_only : (place : Place) (first : Walk) → sum place first [] ≡ made_of alone_in_sum (asked Number (first place))
+unfolding sum operand
+sum_only place first = refl
+
+pub sum_two : (place : Place) (first : Walk) (subtracts : Bool) (second : Walk) (more : List TermWalk)
+    → sum place first ((subtracts, second) ∷ more) ≡ (made_of (begun_sum subtracts) (two_asked Number (first place) (second place)) >>= (λ it. both (Ok it.0) (onto it.1 (each (further_term place) more))))
+unfolding sum two
+sum_two place first subtracts second more = two_summed subtracts (both (first place) (second place)) (λ it. both_of_kind Number it.0 it.1) (each (further_term place) more)
+
+pub further : (place : Place) (subtracts : Bool) (value : Walk) → further_term place (subtracts, value) ≡ asked_term subtracts (value place)
+unfolding further_term operand
+further place subtracts value = refl

@@ -5,25 +5,20 @@ use Rattle.ct_types.specs.declared.catalogue.Catalogued.{Catalogued}
 use Rattle.ct_types.specs.declared.catalogue.Variable.{Variable}
 use Rattle.ct_types.specs.declared.expr.Expr.{Expr}
 use Rattle.ct_types.specs.declared.expr.Scalar.{Scalar}
-use Rattle.ct_types.specs.declared.expr.Term.{Term}
 use Rattle.ct_types.specs.declared.bound.BoundExpr.{BoundExpr}
-use Rattle.ct_types.specs.declared.bound.BoundTerm.{BoundTerm}
 use Rattle.ct_types.specs.declared.bound.BoundRowVersion.{BoundRowVersion, roll-BoundRowVersion}
 use Rattle.ct_types.specs.declared.refusal.Refusal.TheVariants.{CountClash}
 use Rattle.ct_types.specs.declared.schema.Schema.{Schema}
 use Rattle.ct_bind_kinds.specs.declared.kind.Kind.{Kind}
-use Rattle.ct_bind_kinds.specs.declared.kind.Kind.TheVariants.{Number}
 use Rattle.ct_types.specs.Answers.{Answer, ◌>>=◌, ◌>>◌, demand, each}
 use Rattle.ct_bind_names.specs.Catalogue.{tracked_table}
 use Rattle.ct_bind_expr.specs.declared.place.Typed.{Typed}
 use Rattle.ct_bind_expr.specs.declared.place.Place.{Place}
-use Rattle.ct_bind_expr.specs.declared.place.WalkedTerm.{WalkedTerm}
 use Rattle.ct_bind_expr.specs.Places.{closed, of_kind}
 use Rattle.ct_bind_expr.specs.Versions.{Walk, operand, values, tuple, key_columns, listed_kinds, in_key_order, version_of}
-use Rattle.ct_bind_expr.specs.Walk.{TermWalk, two, both_of_kind, chain, term, further_term, sum, scalar_column, walk, scalar_walk, term_walk}
-use Rattle.ct_bind_expr.specs.Walked.{walked, walked_term, both, scalar_with}
-use Rattle.ct_bind_expr.proofs.Parts.{sum_with}
-use Rattle.ct_bind_expr.proofs.Opened.{opened_term, opened_version, opened_scalar}
+use Rattle.ct_bind_expr.specs.Walk.{two, both_of_kind, chain, scalar_column, walk, scalar_walk}
+use Rattle.ct_bind_expr.specs.Walked.{walked, both, scalar_with}
+use Rattle.ct_bind_expr.proofs.Opened.{opened_version, opened_scalar}
 
 -- ---- lists of operands
 
@@ -75,30 +70,9 @@ version_at walk place table names all =
     (λ kinds. tuple closed kinds (map walked (map (λ e. walk e place) all)) >>= made)
     (λ kinds. ap (λ it. it >>= made) (tuple_at walk place kinds all))
 
--- ---- sums and scalar forms
+-- ---- scalar forms
 
 module _ (tables : List Catalogued) (variables : List Variable) where
-  abbrev pub at_term : Place → Term → WalkedTerm
-  at_term place term = record { subtracts = term.subtracts; value = walk tables variables term.value place }
-
-  pub terms_at : (place : Place) (more : List Term)
-      → each (further_term place) (map (term_walk tables variables) more) ≡ each (further_term closed) (map walked_term (map (at_term place) more))
-  unfolding further_term operand
-  terms_at place [] = refl
-  terms_at place (second ∷ more) =
-      ap (λ w. further_term place w >>= (λ t. each (further_term place) (map (term_walk tables variables) more) >>= (λ made. Ok (t ∷ made)))) (opened_term tables variables second)
-      ∙ ap (λ rest. further_term place (second.subtracts, walk tables variables second.value) >>= (λ t. rest >>= (λ made. Ok (t ∷ made)))) (terms_at place more)
-
-  pub sum_at : (place : Place) (first : Expr) (more : List Term)
-      → sum place (walk tables variables first) (map (term_walk tables variables) more) ≡ sum closed (walked (walk tables variables first place)) (map walked_term (map (at_term place) more))
-  unfolding sum two operand
-  sum_at place first [] = refl
-  sum_at place first (second ∷ more) =
-      let whole : TermWalk → Answer (List BoundTerm) → Answer (BoundExpr × List BoundTerm) =
-      λ w rest. two place (walk tables variables first) w.1 >>= (λ it. both_of_kind Number it.0 it.1 >>= (λ both. sum_with w.0 both rest)) in
-      ap (λ w. whole w (each (further_term place) (map (term_walk tables variables) more))) (opened_term tables variables second)
-      ∙ ap (λ rest. whole (second.subtracts, walk tables variables second.value) rest) (terms_at place more)
-
   abbrev with_schema : Catalogued → Answer BoundRowVersion → Answer (Schema × BoundRowVersion)
   with_schema it version = do
     bound ← version
@@ -114,6 +88,15 @@ module _ (tables : List Catalogued) (variables : List Variable) where
   joined (Err refusal) version last = refl
   joined (Ok it) version last = joined_one it (version it) last
 
+  pub scalar_opens : (place : Place) (s : Scalar)
+      → scalar_walk tables variables s place
+      ≡ (tracked_table tables s.version.table >>= (λ it. version_of it.schema s.version.columns (map (walk tables variables) s.version.values) place >>= scalar_column it.schema s.source s.alias s.column))
+  scalar_opens place s =
+      let last = λ (table : Schema) (bound : BoundRowVersion). scalar_column table s.source s.alias s.column bound in
+      ap (λ w. w place) (opened_scalar tables variables s)
+      ∙ ap (λ w. w place >>= (λ it. last it.0 it.1)) (opened_version tables variables s.version)
+      ∙ joined (tracked_table tables s.version.table) (λ it. version_of it.schema s.version.columns (map (walk tables variables) s.version.values) place) last
+
   pub scalar_at : (place : Place) (s : Scalar)
       → scalar_walk tables variables s place ≡ scalar_with tables s (map (λ e. walk tables variables e place) s.version.values)
   unfolding scalar_with
@@ -121,8 +104,6 @@ module _ (tables : List Catalogued) (variables : List Variable) where
       let last = λ (table : Schema) (bound : BoundRowVersion). scalar_column table s.source s.alias s.column bound in
       let before = λ (it : Catalogued). version_of it.schema s.version.columns (map (walk tables variables) s.version.values) place in
       let after = λ (it : Catalogued). version_of it.schema s.version.columns (map walked (map (λ e. walk tables variables e place) s.version.values)) closed in
-      ap (λ w. w place) (opened_scalar tables variables s)
-      ∙ ap (λ w. w place >>= (λ it. last it.0 it.1)) (opened_version tables variables s.version)
-      ∙ joined (tracked_table tables s.version.table) before last
+      scalar_opens place s
       ∙ under (tracked_table tables s.version.table) (λ it. before it >>= (λ bound. last it.schema bound)) (λ it. after it >>= (λ bound. last it.schema bound))
       (λ it. ap (λ v. v >>= (λ bound. last it.schema bound)) (version_at (walk tables variables) place it.schema s.version.columns s.version.values))

@@ -1,3 +1,4 @@
+pub mod Among
 pub mod Places
 pub mod Versions
 pub mod Walk

@@ -81,19 +81,23 @@ listed_kinds key names = do
   Ok kinds
 
 -- the value that the list gives a column
-abbrev pub value_of : List (List ℕ) → List BoundExpr → Column → Option BoundExpr
+abbrev pub value_of : {A : Type 0} → List (List ℕ) → List A → Column → Option A
 value_of names values column = option_and_then (slice_get values) (place_of column.name names)
 
 -- the values of a list of columns, in key order
 unfoldable pub in_key_order : List Column → List (List ℕ) → List BoundExpr → List BoundExpr
 in_key_order key names values = filter_map (value_of names values) key
 
+-- the list and the tuple, whose values are bound
+abbrev pub version_in : ℕ → List Column → List (List ℕ) → List BoundExpr → BoundRowVersion
+version_in table key names bound = roll-BoundRowVersion (record { table = table; values = in_key_order key names bound })
+
 -- the list, then the tuple
 unfoldable pub version_of : Schema → List (List ℕ) → List Walk → Place → Answer BoundRowVersion
 version_of table names walks place = do
   kinds ← listed_kinds (key_columns table) names
   bound ← tuple place kinds walks
-  Ok (roll-BoundRowVersion (record { table = table.id; values = in_key_order (key_columns table) names bound }))
+  Ok (version_in table.id (key_columns table) names bound)
 
 -- ---- the columns of CHANGETABLE(VERSION ..)
 

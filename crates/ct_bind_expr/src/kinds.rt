@@ -1,6 +1,7 @@
 ghost use Rattle.std.specs.Prelude.{◌≡◌};
 ghost use Rattle.ct_bind_expr.specs.Places as spec;
 
+use crate::made::where_meant;
 use crate::place::Typed;
 use ct_bind_kinds::{Kind, is_value, suits};
 use ct_types::{BoundExpr, Refusal};
@@ -19,22 +20,14 @@ fn is_a(kind: Kind, wanted: Kind) -> bool
 pub fn of_kind(wanted: Kind, it: Typed) -> Result<BoundExpr, Refusal>
     ensures { result ≡ spec.of_kind wanted it }
 {
-    if is_a(it.kind, wanted) {
-        Ok(it.expr)
-    } else {
-        Err(Refusal::TypeClash)
-    }
+    where_meant(is_a(it.kind, wanted), it.expr)
 }
 
 /// The expression, where it is a value: TypeClash where it is a condition.
 pub fn any_value(it: Typed) -> Result<BoundExpr, Refusal>
     ensures { result ≡ spec.any_value it }
 {
-    if is_value(it.kind) {
-        Ok(it.expr)
-    } else {
-        Err(Refusal::TypeClash)
-    }
+    where_meant(is_value(it.kind), it.expr)
 }
 
 /// Whether two expressions are values of one kind, NULL aside.

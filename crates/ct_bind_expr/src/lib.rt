@@ -3,7 +3,6 @@
 
 mod chains;
 mod columns;
-mod copy;
 mod kinds;
 mod made;
 mod operators;

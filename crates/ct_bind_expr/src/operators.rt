@@ -1,11 +1,11 @@
-ghost use Rattle.std.specs.Prelude.{◌≡◌};
+ghost use Rattle.std.specs.Prelude.{◌≡◌, Ok};
 ghost use Rattle.ct_types.specs.Answers.{Gives};
 ghost use Rattle.ct_bind_expr.specs.Places.{of_kind as judged};
 ghost use Rattle.ct_bind_expr.specs.Walk as spec;
-ghost use Rattle.ct_bind_expr.specs.Walked.{both as two_walked, three as three_walked, of_one, of_two, of_three};
+ghost use Rattle.ct_bind_expr.specs.Walked.{of_one, of_two, of_three};
 
 use crate::kinds::{any_value, go_together, of_kind};
-use crate::made::boxed;
+use crate::made::{boxed, boxed_together, joined};
 use crate::place::{Typed, Walked};
 use ct_bind_kinds::{Kind, either};
 use ct_bind_names::literal;
@@ -36,16 +36,7 @@ fn boxed_as(alloc: Global, wanted: Kind, it: Typed) -> Result<Boxed<BoundExpr>, 
     ensures { Gives (judged wanted it) result }
 {
     let expr = of_kind(wanted, it)?;
-    Ok(boxed(alloc, expr)?)
-}
-
-/// Both operands, or the refusal of the first that is refused.
-fn both(left: Walked, right: Walked) -> Result<(Typed, Typed), Refusal>
-    ensures { result ≡ two_walked left right }
-{
-    let left = left?;
-    let right = right?;
-    Ok((left, right))
+    boxed(alloc, expr)
 }
 
 #[tactic(auto, unfolding(crate::specs::Walk::min_valid_version))]
@@ -60,9 +51,11 @@ pub(crate) fn min_valid_version(alloc: Global, table: Walked) -> Walked
 pub(crate) fn is_column_in_mask(alloc: Global, column: Walked, mask: Walked) -> Walked
     ensures { Gives (of_two spec.is_column_in_mask column mask) result }
 {
-    let (column, mask) = both(column, mask)?;
-    let column = boxed_as(alloc, Kind::Number, column)?;
-    let mask = boxed_as(alloc, Kind::Bytes, mask)?;
+    let (column, mask) = joined(column, mask)?;
+    let (column, mask) = joined(
+        boxed_as(alloc, Kind::Number, column),
+        boxed_as(alloc, Kind::Bytes, mask),
+    )?;
     Ok(number(BoundExpr::IsColumnInMask(column, mask)))
 }
 
@@ -74,15 +67,6 @@ pub(crate) fn object_id(alloc: Global, name: Walked) -> Walked
     Ok(number(BoundExpr::ObjectId(name)))
 }
 
-/// All three operands, or the refusal of the first that is refused.
-fn three(first: Walked, second: Walked, third: Walked) -> Result<(Typed, Typed, Typed), Refusal>
-    ensures { result ≡ three_walked first second third }
-{
-    let (first, second) = both(first, second)?;
-    let third = third?;
-    Ok((first, second, third))
-}
-
 pub(crate) fn column_property(
     alloc: Global,
     table: Walked,
@@ -91,7 +75,7 @@ pub(crate) fn column_property(
 ) -> Walked
     ensures { Gives (of_three spec.column_property table column property) result }
 {
-    let (table, column, property) = three(table, column, property)?;
+    let (table, (column, property)) = joined(table, joined(column, property))?;
     property_of_column(alloc, table, column, property)
 }
 
@@ -104,9 +88,12 @@ fn property_of_column(
 ) -> Result<Typed, Refusal>
     ensures { Gives (spec.column_property table column property) result }
 {
-    let table = boxed_as(alloc, Kind::Number, table)?;
-    let column = boxed_as(alloc, Kind::Text, column)?;
-    let property = boxed_as(alloc, Kind::Text, property)?;
+    let table = boxed_as(alloc, Kind::Number, table);
+    let names = joined(
+        boxed_as(alloc, Kind::Text, column),
+        boxed_as(alloc, Kind::Text, property),
+    );
+    let (table, (column, property)) = joined(table, names)?;
     Ok(number(BoundExpr::ColumnProperty(table, column, property)))
 }
 
@@ -114,13 +101,12 @@ fn property_of_column(
 pub(crate) fn if_null(alloc: Global, value: Walked, instead: Walked) -> Walked
     ensures { Gives (of_two spec.if_null value instead) result }
 {
-    let (value, instead) = both(value, instead)?;
-    if !go_together(value.kind, instead.kind) {
-        return Err(Refusal::TypeClash);
-    }
+    let (value, instead) = joined(value, instead)?;
+    let is_meant = go_together(value.kind, instead.kind);
     let kind = either(value.kind, instead.kind);
+    let (value, instead) = boxed_together(alloc, is_meant, value.expr, instead.expr)?;
     Ok(Typed {
-        expr: BoundExpr::IfNull(boxed(alloc, value.expr)?, boxed(alloc, instead.expr)?),
+        expr: BoundExpr::IfNull(value, instead),
         kind,
     })
 }
@@ -137,15 +123,10 @@ pub(crate) fn negative(alloc: Global, operand: Walked) -> Walked
 pub(crate) fn compare(alloc: Global, operator: Comparison, left: Walked, right: Walked) -> Walked
     ensures { Gives (of_two (spec.compare operator) left right) result }
 {
-    let (left, right) = both(left, right)?;
-    if !go_together(left.kind, right.kind) {
-        return Err(Refusal::TypeClash);
-    }
-    Ok(condition(BoundExpr::Compare(
-        operator,
-        boxed(alloc, left.expr)?,
-        boxed(alloc, right.expr)?,
-    )))
+    let (left, right) = joined(left, right)?;
+    let is_meant = go_together(left.kind, right.kind);
+    let (left, right) = boxed_together(alloc, is_meant, left.expr, right.expr)?;
+    Ok(condition(BoundExpr::Compare(operator, left, right)))
 }
 
 #[tactic(auto, unfolding(crate::specs::Walk::is_null))]

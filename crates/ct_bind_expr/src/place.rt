@@ -12,13 +12,6 @@ pub struct Typed {
 /// What an expression comes to at a place: bound, with its kind, or the first refusal.
 pub type Walked = Result<Typed, Refusal>;
 
-/// What an operand of a sum after the first comes to.
-#[derive(Drop)]
-pub(crate) struct WalkedTerm {
-    pub(crate) subtracts: bool,
-    pub(crate) value: Walked,
-}
-
 /// A column that a source shows.
 #[derive(Debug, Drop)]
 pub struct Shown {

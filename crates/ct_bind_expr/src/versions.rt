@@ -1,14 +1,16 @@
-ghost use Rattle.std.specs.Prelude.{◌≡◌, [], IfOk};
+ghost use Rattle.std.specs.Prelude.{◌≡◌, [], Ok, IfOk};
+ghost use Rattle.std.specs.List.{filter_map};
 ghost use Rattle.std.specs.Option.{option_copied};
 ghost use Rattle.ct_types.specs.Answers.{Gives, each_after};
 ghost use Rattle.ct_bind_kinds.specs.WellFormed as kinds;
 ghost use Rattle.ct_bind_expr.specs.Versions as spec;
 
-use crate::copy::copy_expr;
+use crate::made::{add_some, takeable, taken_from};
 use ct_bind_kinds::{Kind, kind_of_type};
 use ct_bind_names::{is_among, place_after, place_of, same_name};
 use ct_types::{
-    BoundExpr, Column, Copies, List, Memory, Refusal, Schema, Text, VersionColumn, push,
+    BoundExpr, BoundRowVersion, Column, Copies, List, Memory, Refusal, Schema, Text, VersionColumn,
+    push,
 };
 use sqlite_items::Items;
 use std::alloc::Global;
@@ -97,33 +99,38 @@ pub(crate) fn listed_kinds(
     }
 }
 
-/// The value of a listed column, if there is one.
-fn value_of<'a>(column: &Column, names: &[Text], values: &'a [BoundExpr]) -> Option<&'a BoundExpr>
-    ensures { option_copied result ≡ spec.value_of names.now values.now column.now }
-{
-    match place_of(&column.name, names) {
-        Some(at) => values.get(at),
-        None => None,
-    }
-}
-
-/// The values of the listed columns, in key order.
-#[tactic(auto, unfolding(crate::specs::Versions::in_key_order))]
-pub(crate) fn in_key_order(
+/// The values of the listed columns, in key order. A key that named one column twice would be want of memory.
+#[tactic(auto, using(crate::proofs::Taken::collects))]
+fn in_key_order<T: Drop>(
     alloc: Global,
     key: &[Column],
     names: &[Text],
-    values: &[BoundExpr],
-) -> Result<Items<BoundExpr>, Memory>
-    ensures { IfOk result (λ made. made ≡ spec.in_key_order key.now names.now values.now) }
+    values: List<T>,
+) -> Result<Items<T>, Memory>
+    ensures { IfOk result (λ made. made ≡ filter_map (spec.value_of names.now values) key.now) }
 {
+    let mut left = takeable(alloc, values)?;
     let mut made = Items::new(alloc);
     for column in key {
-        if let Some(value) = value_of(column, names, values) {
-            made.push(copy_expr(alloc, value)?)?;
-        }
+        let value = taken_from(&mut left, place_of(&column.name, names))?;
+        add_some(&mut made, value)?;
     }
     Ok(made)
+}
+
+/// The list and the tuple, whose values are bound.
+#[tactic(auto, unfolding(crate::specs::Versions::in_key_order))]
+pub(crate) fn version(
+    alloc: Global,
+    table: u32,
+    key: &[Column],
+    names: &[Text],
+    values: List<BoundExpr>,
+) -> Result<BoundRowVersion, Refusal>
+    ensures { Gives (Ok (spec.version_in table key.now names.now values)) result }
+{
+    let values = in_key_order(alloc, key, names, values)?;
+    Ok(BoundRowVersion { table, values })
 }
 
 #[tactic(auto, unfolding(crate::specs::Versions::key_column_from))]

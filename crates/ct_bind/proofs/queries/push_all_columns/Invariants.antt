@@ -1,4 +1,4 @@
-use Rattle.std.proofs.Common.{◌≡◌, ◌+◌, ◌++◌, drop}
+use Rattle.std.proofs.Common.{◌≡◌, ◌++◌, drop}
 use Rattle.ct_bind.specs.Queries.{all_columns}
 use Rattle.ct_bind.proofs.queries.push_all_columns.Given as goal
 

@@ -1,4 +1,4 @@
-use Rattle.std.proofs.Common.{◌≡◌, ◌+◌, ◌++◌, drop}
+use Rattle.std.proofs.Common.{◌≡◌, ◌++◌, drop}
 use Rattle.ct_bind.specs.Queries.{columns_from}
 use Rattle.ct_bind.proofs.queries.push_columns_from.Given as goal
 

@@ -1,4 +1,4 @@
-use Rattle.std.proofs.Common.{◌≡◌, ◌+◌, ◌++◌, drop}
+use Rattle.std.proofs.Common.{◌≡◌, ◌++◌, drop}
 use Rattle.ct_bind.specs.Sources.{shown_columns}
 use Rattle.ct_bind.proofs.sources.push_columns.Given as goal
 

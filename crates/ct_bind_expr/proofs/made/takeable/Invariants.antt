@@ -1,0 +1,6 @@
+use Rattle.std.proofs.Common.{◌≡◌, ◌++◌, map, Some}
+use Rattle.std.specs.Vec.Iter.{into_iter_items}
+use Rattle.ct_bind_expr.proofs.made.takeable.Given as goal
+
+abbrev pub invariant-loop-item : goal.invariant-loop-item
+invariant-loop-item g l = l.made.items ++ map Some (into_iter_items l.item-iterator) ≡ map Some l.fn.items
