@@ -12,13 +12,13 @@ use Rattle.ct_ptree.specs.declared.pair.Pair.{Pair}
 use Rattle.ct_ptree.specs.Pairs.{Ascends, AllBelow, AllAbove, is_below, is_above, with_pair, without}
 use Rattle.ct_ptree.proofs.Lists.{all_weaken, all_everywhere, all_append, all_front, all_back, all_filter}
 
-turned : (a b : Key) → key_cmp a b ≡ Greater → key_cmp b a ≡ Less
+pub turned : (a b : Key) → key_cmp a b ≡ Greater → key_cmp b a ≡ Less
 turned a b e = key_cmp_total.antisymm b a ∙ ap ordering_reverse e
 
-flipped : (a b : Key) → key_cmp b a ≡ Less → key_cmp a b ≡ Greater
+pub flipped : (a b : Key) → key_cmp b a ≡ Less → key_cmp a b ≡ Greater
 flipped a b e = key_cmp_total.antisymm a b ∙ ap ordering_reverse e
 
-less_of : (o : Ordering) → is_lt o ≡ true → o ≡ Less
+pub less_of : (o : Ordering) → is_lt o ≡ true → o ≡ Less
 less_of Less e = refl
 less_of Equal e = cc
 less_of Greater e = cc

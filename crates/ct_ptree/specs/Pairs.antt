@@ -58,6 +58,11 @@ module _ {V : Type 0} where
   start_cmp [] key = Less
   start_cmp (first ∷ rest) key = key_cmp first.key key
 
+  -- where there are pairs, the first one has this key
+  abbrev pub BeginsAt : Key → List (Pair V) → Type 0
+  BeginsAt key [] = Unit {0}
+  BeginsAt key (first ∷ rest) = first.key ≡ key
+
   -- two lists, none of them empty, that together are this one
   abbrev pub AreHalves : List (Pair V) → List (Pair V) → List (Pair V) → Type 0
   AreHalves pairs front back = (front ++ back ≡ pairs) × (0 < length front) × (0 < length back)

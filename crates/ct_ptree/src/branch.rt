@@ -1,11 +1,11 @@
 ghost use Rattle.std.specs.Prelude.{◌≡◌, ◌==◌, ◌+◌, ◌<◌, ◌++◌, ◌∷◌, [], IfOk, OnOk, OnErr, length, take, drop, slice_index_or};
 ghost use Rattle.std.specs.List.{remove};
 ghost use Rattle.std.specs.Option.{IfSome, option_copied};
-ghost use Rattle.ct_ptree.specs.Pairs.{Ascends, AreFilled, AllBelow, AllAbove, joined, values, value_at, with_pair, without, from_key, start_cmp, AreHalves};
+ghost use Rattle.ct_ptree.specs.Pairs.{Ascends, AreFilled, AllBelow, AllAbove, joined, values, value_at, with_pair, without, from_key, start_cmp, BeginsAt, AreHalves};
 
 use crate::leaf::Leaf;
 use crate::pair::Pair;
-use ct_types::{Key, Memory};
+use ct_types::{Key, Memory, cmp_key};
 use std::alloc::Global;
 use std::cmp::Ordering;
 use std::marker::Model;
@@ -17,22 +17,24 @@ const MOST: usize = 127;
 /// The most leaves of two branches that become one.
 const FEW: usize = 64;
 
-/// Some leaves in rising order of keys, none of them empty.
+/// Some leaves in rising order of keys, none of them empty, and beside them a pair of the first one's key: a search among
+/// branches reads no list.
 #[derive(Drop)]
 pub(crate) struct Branch<V> {
+    first: Arc<Pair<V>>,
     leaves: Arc<Vec<Leaf<V>>>,
 }
 
 impl<V> Model for Branch<V> {
     ghost use Rattle.std.specs.Prelude.{List};
     ghost use Rattle.ct_ptree.specs.declared.pair.Pair.{Pair};
-    ghost use Rattle.ct_ptree.specs.Pairs.{joined, AreFilled};
+    ghost use Rattle.ct_ptree.specs.Pairs.{joined, AreFilled, BeginsAt};
 
     ghost Value = { List (Pair V) };
 
     ghost view = { λ it. joined it.leaves.value.items };
 
-    ghost invariant = { λ it. AreFilled it.leaves.value.items };
+    ghost invariant = { λ it. AreFilled it.leaves.value.items × BeginsAt it.first.value.key (joined it.leaves.value.items) };
 }
 
 /// The place of the only leaf that may have a key.
@@ -181,12 +183,79 @@ fn take_pair<V: Drop>(alloc: Global, leaves: &mut Vec<Leaf<V>>, key: &Key) -> Re
     Ok(())
 }
 
+/// Puts a pair in the place of its key, in place as far down as nobody else holds what is there.
+fn put_shared<V: Drop>(
+    alloc: Global,
+    leaves: &mut Arc<Vec<Leaf<V>>>,
+    pair: Arc<Pair<V>>,
+) -> Result<(), Memory>
+    requires filled { AreFilled leaves.old.value.items }
+    requires rising { Ascends (joined leaves.old.value.items) }
+    requires some { 0 < length leaves.old.value.items }
+    ensures filled { AreFilled leaves.new.value.items }
+    ensures ok { OnOk result (joined leaves.new.value.items ≡ with_pair (joined leaves.old.value.items) pair.value) }
+    ensures err { OnErr result (joined leaves.new.value.items ≡ joined leaves.old.value.items) }
+{
+    match Arc::get_mut(leaves) {
+        Some(own) => put_pair(alloc, own, pair),
+        None => {
+            let mut made = shares(alloc, leaves.as_slice())?;
+            put_pair(alloc, &mut made, pair)?;
+            *leaves = Arc::new(alloc, made)?;
+            Ok(())
+        }
+    }
+}
+
+/// Takes the pair of a key away, in place as far down as nobody else holds what is there.
+fn take_shared<V: Drop>(
+    alloc: Global,
+    leaves: &mut Arc<Vec<Leaf<V>>>,
+    key: &Key,
+) -> Result<(), Memory>
+    requires filled { AreFilled leaves.old.value.items }
+    requires rising { Ascends (joined leaves.old.value.items) }
+    requires some { 0 < length leaves.old.value.items }
+    ensures filled { AreFilled leaves.new.value.items }
+    ensures ok { OnOk result (joined leaves.new.value.items ≡ without (joined leaves.old.value.items) key.now) }
+    ensures err { OnErr result (joined leaves.new.value.items ≡ joined leaves.old.value.items) }
+{
+    match Arc::get_mut(leaves) {
+        Some(own) => take_pair(alloc, own, key),
+        None => {
+            let mut made = shares(alloc, leaves.as_slice())?;
+            take_pair(alloc, &mut made, key)?;
+            *leaves = Arc::new(alloc, made)?;
+            Ok(())
+        }
+    }
+}
+
+/// A pair of the second one's key, where there are two.
+#[tactic(auto, using(crate::proofs::Firsts::level_next))]
+fn second<V: Drop>(leaves: &[Leaf<V>]) -> Result<Arc<Pair<V>>, Memory>
+    requires filled { AreFilled leaves.now }
+    requires some { 0 < length leaves.now }
+    ensures { IfOk result (λ made. BeginsAt made.value.key (drop 1 (joined leaves.now))) }
+{
+    let leaf = &leaves[0];
+    if !leaf.is_single() {
+        return leaf.second();
+    }
+    match leaves.get(1) {
+        None => leaf.first(),
+        Some(next) => Ok(next.first()?),
+    }
+}
+
 impl<V: Drop> Branch<V> {
     fn of(alloc: Global, leaves: Vec<Leaf<V>>) -> Result<Branch<V>, Memory>
-        requires { AreFilled leaves.items }
+        requires filled { AreFilled leaves.items }
+        requires some { 0 < length leaves.items }
         ensures { IfOk result (λ made. made ≡ joined leaves.items) }
     {
         Ok(Branch {
+            first: leaves[0].first()?,
             leaves: Arc::new(alloc, leaves)?,
         })
     }
@@ -205,6 +274,7 @@ impl<V: Drop> Branch<V> {
         ensures { IfOk result (λ made. made ≡ self.now) }
     {
         Ok(Branch {
+            first: Arc::try_clone(&self.first)?,
             leaves: Arc::try_clone(&self.leaves)?,
         })
     }
@@ -218,12 +288,10 @@ impl<V: Drop> Branch<V> {
 
     /// How the first key stands to a key.
     pub(crate) fn start(&self, key: &Key) -> Ordering
+        requires { 0 < length self.now }
         ensures { result ≡ start_cmp self.now key.now }
     {
-        match self.leaves.first() {
-            None => Ordering::Less,
-            Some(leaf) => leaf.start(key),
-        }
+        cmp_key(&self.first.key, key)
     }
 
     /// The leaves.
@@ -278,6 +346,7 @@ impl<V: Drop> Branch<V> {
         alloc: Global,
         next: &Branch<V>,
     ) -> Result<Option<Branch<V>>, Memory>
+        requires { 0 < length self.now }
         ensures { IfOk result (λ made. IfSome made (λ branch. branch ≡ self.now ++ next.now)) }
     {
         if self.leaves.len().saturating_add(next.leaves.len()) > FEW {
@@ -295,14 +364,13 @@ impl<V: Drop> Branch<V> {
         ensures ok { OnOk result (self.new ≡ with_pair self.old pair.value) }
         ensures err { OnErr result (self.new ≡ self.old) }
     {
-        match Arc::get_mut(&mut self.leaves) {
-            Some(leaves) => put_pair(alloc, leaves, pair),
-            None => {
-                let mut leaves = shares(alloc, self.leaves.as_slice())?;
-                put_pair(alloc, &mut leaves, pair)?;
-                self.leaves = Arc::new(alloc, leaves)?;
-                Ok(())
-            }
+        if cmp_key(&pair.key, &self.first.key).is_lt() {
+            let first = Arc::try_clone(&pair)?;
+            put_shared(alloc, &mut self.leaves, pair)?;
+            self.first = first;
+            Ok(())
+        } else {
+            put_shared(alloc, &mut self.leaves, pair)
         }
     }
 
@@ -313,14 +381,13 @@ impl<V: Drop> Branch<V> {
         ensures ok { OnOk result (self.new ≡ without self.old key.now) }
         ensures err { OnErr result (self.new ≡ self.old) }
     {
-        match Arc::get_mut(&mut self.leaves) {
-            Some(leaves) => take_pair(alloc, leaves, key),
-            None => {
-                let mut leaves = shares(alloc, self.leaves.as_slice())?;
-                take_pair(alloc, &mut leaves, key)?;
-                self.leaves = Arc::new(alloc, leaves)?;
-                Ok(())
-            }
+        if cmp_key(&self.first.key, key).is_eq() {
+            let first = second(self.leaves.as_slice())?;
+            take_shared(alloc, &mut self.leaves, key)?;
+            self.first = first;
+            Ok(())
+        } else {
+            take_shared(alloc, &mut self.leaves, key)
         }
     }
 }

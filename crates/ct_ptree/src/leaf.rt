@@ -1,6 +1,6 @@
 ghost use Rattle.std.specs.Prelude.{◌≡◌, ◌==◌, ◌+◌, ◌<◌, ◌≤◌, ◌++◌, ◌∷◌, [], IfOk, OnOk, OnErr, None, length, take, drop, filter};
 ghost use Rattle.std.specs.Option.{IfSome, option_copied};
-ghost use Rattle.ct_ptree.specs.Pairs.{Ascends, values, is_below, is_above, value_at, with_pair, without, from_key, start_cmp, IsFoundAt, AreHalves};
+ghost use Rattle.ct_ptree.specs.Pairs.{Ascends, values, is_below, is_above, value_at, with_pair, without, from_key, start_cmp, BeginsAt, IsFoundAt, AreHalves};
 
 use crate::pair::Pair;
 use ct_types::{Key, Memory, cmp_key};
@@ -15,20 +15,23 @@ const MOST: usize = 127;
 /// The most pairs of two leaves that become one.
 const FEW: usize = 64;
 
-/// Some pairs in rising order of keys.
+/// Some pairs in rising order of keys, and beside them a pair of the first one's key: a search among leaves reads no list.
 #[derive(Drop)]
 pub(crate) struct Leaf<V> {
+    first: Arc<Pair<V>>,
     pairs: Arc<Vec<Arc<Pair<V>>>>,
 }
 
 impl<V> Model for Leaf<V> {
     ghost use Rattle.std.specs.Prelude.{List};
     ghost use Rattle.ct_ptree.specs.declared.pair.Pair.{Pair};
-    ghost use Rattle.ct_ptree.specs.Pairs.{values};
+    ghost use Rattle.ct_ptree.specs.Pairs.{values, BeginsAt};
 
     ghost Value = { List (Pair V) };
 
     ghost view = { λ it. values it.pairs.value.items };
+
+    ghost invariant = { λ it. BeginsAt it.first.value.key (values it.pairs.value.items) };
 }
 
 /// How many pairs stand below a key, and how many stand not above it.
@@ -101,11 +104,58 @@ fn take_pair<V: Drop>(pairs: &mut Vec<Arc<Pair<V>>>, key: &Key)
     }
 }
 
+/// Puts a pair in the place of its key, in place where nobody else holds the list.
+fn put_shared<V: Drop>(
+    alloc: Global,
+    pairs: &mut Arc<Vec<Arc<Pair<V>>>>,
+    pair: Arc<Pair<V>>,
+) -> Result<(), Memory>
+    requires { Ascends (values pairs.old.value.items) }
+    ensures ok { OnOk result (values pairs.new.value.items ≡ with_pair (values pairs.old.value.items) pair.value) }
+    ensures err { OnErr result (values pairs.new.value.items ≡ values pairs.old.value.items) }
+{
+    match Arc::get_mut(pairs) {
+        Some(own) => put_pair(own, pair),
+        None => {
+            let mut made = shares(alloc, pairs.as_slice())?;
+            put_pair(&mut made, pair)?;
+            *pairs = Arc::new(alloc, made)?;
+            Ok(())
+        }
+    }
+}
+
+/// Takes the pair of a key away, in place where nobody else holds the list.
+fn take_shared<V: Drop>(
+    alloc: Global,
+    pairs: &mut Arc<Vec<Arc<Pair<V>>>>,
+    key: &Key,
+) -> Result<(), Memory>
+    requires { Ascends (values pairs.old.value.items) }
+    ensures ok { OnOk result (values pairs.new.value.items ≡ without (values pairs.old.value.items) key.now) }
+    ensures err { OnErr result (values pairs.new.value.items ≡ values pairs.old.value.items) }
+{
+    match Arc::get_mut(pairs) {
+        Some(own) => {
+            take_pair(own, key);
+            Ok(())
+        }
+        None => {
+            let mut made = shares(alloc, pairs.as_slice())?;
+            take_pair(&mut made, key);
+            *pairs = Arc::new(alloc, made)?;
+            Ok(())
+        }
+    }
+}
+
 impl<V: Drop> Leaf<V> {
     fn of(alloc: Global, pairs: Vec<Arc<Pair<V>>>) -> Result<Leaf<V>, Memory>
+        requires { 0 < length (values pairs.items) }
         ensures { IfOk result (λ made. made ≡ values pairs.items) }
     {
         Ok(Leaf {
+            first: Arc::try_clone(&pairs[0])?,
             pairs: Arc::new(alloc, pairs)?,
         })
     }
@@ -124,6 +174,7 @@ impl<V: Drop> Leaf<V> {
         ensures { IfOk result (λ made. made ≡ self.now) }
     {
         Ok(Leaf {
+            first: Arc::try_clone(&self.first)?,
             pairs: Arc::try_clone(&self.pairs)?,
         })
     }
@@ -137,12 +188,34 @@ impl<V: Drop> Leaf<V> {
 
     /// How the first key stands to a key.
     pub(crate) fn start(&self, key: &Key) -> Ordering
+        requires { 0 < length self.now }
         ensures { result ≡ start_cmp self.now key.now }
     {
-        match self.pairs.first() {
-            None => Ordering::Less,
-            Some(pair) => cmp_key(&pair.key, key),
+        cmp_key(&self.first.key, key)
+    }
+
+    /// A pair of the first one's key.
+    pub(crate) fn first(&self) -> Result<Arc<Pair<V>>, Memory>
+        ensures { IfOk result (λ made. BeginsAt made.value.key self.now) }
+    {
+        Ok(Arc::try_clone(&self.first)?)
+    }
+
+    /// A pair of the second one's key, where there are two.
+    pub(crate) fn second(&self) -> Result<Arc<Pair<V>>, Memory>
+        ensures { IfOk result (λ made. BeginsAt made.value.key (drop 1 self.now)) }
+    {
+        match self.pairs.get(1) {
+            None => self.first(),
+            Some(pair) => Ok(Arc::try_clone(pair)?),
         }
+    }
+
+    /// Whether it has one pair.
+    pub(crate) fn is_single(&self) -> bool
+        ensures { result ≡ (length self.now == 1) }
+    {
+        self.pairs.len() == 1
     }
 
     /// The pairs.
@@ -192,6 +265,7 @@ impl<V: Drop> Leaf<V> {
 
     /// One leaf of this one and the next, where both are small.
     pub(crate) fn merged(&self, alloc: Global, next: &Leaf<V>) -> Result<Option<Leaf<V>>, Memory>
+        requires { 0 < length self.now }
         ensures { IfOk result (λ made. IfSome made (λ leaf. leaf ≡ self.now ++ next.now)) }
     {
         if self.pairs.len().saturating_add(next.pairs.len()) > FEW {
@@ -204,18 +278,18 @@ impl<V: Drop> Leaf<V> {
 
     /// Puts a pair in the place of its key, in place where nobody else holds the leaf.
     pub(crate) fn put(&mut self, alloc: Global, pair: Arc<Pair<V>>) -> Result<(), Memory>
-        requires { Ascends self.old }
+        requires rising { Ascends self.old }
+        requires some { 0 < length self.old }
         ensures ok { OnOk result (self.new ≡ with_pair self.old pair.value) }
         ensures err { OnErr result (self.new ≡ self.old) }
     {
-        match Arc::get_mut(&mut self.pairs) {
-            Some(pairs) => put_pair(pairs, pair),
-            None => {
-                let mut pairs = shares(alloc, self.pairs.as_slice())?;
-                put_pair(&mut pairs, pair)?;
-                self.pairs = Arc::new(alloc, pairs)?;
-                Ok(())
-            }
+        if cmp_key(&pair.key, &self.first.key).is_lt() {
+            let first = Arc::try_clone(&pair)?;
+            put_shared(alloc, &mut self.pairs, pair)?;
+            self.first = first;
+            Ok(())
+        } else {
+            put_shared(alloc, &mut self.pairs, pair)
         }
     }
 
@@ -225,17 +299,13 @@ impl<V: Drop> Leaf<V> {
         ensures ok { OnOk result (self.new ≡ without self.old key.now) }
         ensures err { OnErr result (self.new ≡ self.old) }
     {
-        match Arc::get_mut(&mut self.pairs) {
-            Some(pairs) => {
-                take_pair(pairs, key);
-                Ok(())
-            }
-            None => {
-                let mut pairs = shares(alloc, self.pairs.as_slice())?;
-                take_pair(&mut pairs, key);
-                self.pairs = Arc::new(alloc, pairs)?;
-                Ok(())
-            }
+        if cmp_key(&self.first.key, key).is_eq() {
+            let first = self.second()?;
+            take_shared(alloc, &mut self.pairs, key)?;
+            self.first = first;
+            Ok(())
+        } else {
+            take_shared(alloc, &mut self.pairs, key)
         }
     }
 }

@@ -129,7 +129,7 @@ fn put_pair<V: Drop>(
     Ok(())
 }
 
-/// Makes one of a branch and the next, where there is a next and both are small. Want of memory branches them two.
+/// Makes one of a branch and the next, where there is a next and both are small. Want of memory leaves them two.
 fn merge<V: Drop>(alloc: Global, branches: &mut Vec<Branch<V>>, at: usize)
     requires filled { AreFilled branches.old.items }
     requires within { at < length branches.old.items }

@@ -14,7 +14,9 @@ use std::sync::Arc;
 ///
 /// It has three levels: a root of branches, branches of leaves, leaves of pairs. A leaf has at most 128 pairs and a branch
 /// at most 128 leaves, but for the root there is no most; small leaves and branches are merged. Each list of a level, and
-/// each pair, stands behind a counted pointer, and several trees may hold it.
+/// each pair, stands behind a counted pointer, and several trees may hold it. Beside each leaf's and each branch's list is a
+/// pointer to a pair of its first key, so that a search in the level above compares with that key and reads no list below.
+/// It may be an earlier pair of that key, whose value is then kept until another pair stands there.
 #[derive(Drop)]
 pub struct Tree<V> {
     alloc: Global,

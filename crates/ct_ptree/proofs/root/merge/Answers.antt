@@ -1,7 +1,10 @@
 use Rattle.std.proofs.Common.{set, ap, ◌∙◌, arith}
 use Rattle.ct_ptree.specs.Pairs.{joined}
-use Rattle.ct_ptree.proofs.Levels.{level_merged}
+use Rattle.ct_ptree.proofs.Levels.{filled_at, level_merged}
 use Rattle.ct_ptree.proofs.root.merge.Goals as goal
+
+pub merged-requires : goal.merged-requires
+merged-requires g c = filled_at c.args.branches.now.items c.args.at c.index.result.now c.requires.within c.index.ensures c.requires.filled
 
 pub returns-in-Ok-Some-clause-same : goal.returns-in-Ok-Some-clause-same
 returns-in-Ok-Some-clause-same g c =

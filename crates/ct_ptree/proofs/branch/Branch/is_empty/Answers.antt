@@ -5,4 +5,4 @@ use Rattle.ct_ptree.proofs.branch.Branch.is_empty.Goals as goal
 
 pub returns : goal.returns
 returns g c =
-    rw (c.as_slice.ensures.value, c.deref.ensures) at c.is_empty.ensures ∙ level_empty c.self.inside.leaves.value.items c.self.invariant ∙ ap (λ ys. length ys == 0) c.self.view_is
+    rw (c.as_slice.ensures.value, c.deref.ensures) at c.is_empty.ensures ∙ level_empty c.self.inside.leaves.value.items c.self.invariant.0 ∙ ap (λ ys. length ys == 0) c.self.view_is
