@@ -6,57 +6,57 @@ use Rattle.ct_types.specs.declared.bound.Plan.{Plan}
 use Rattle.ct_types.specs.declared.refusal.Refusal.{Refusal}
 use Rattle.ct_types.specs.declared.value.Row.{Row}
 use Rattle.ct_types.specs.Answers.{Answer, ◌>>=◌}
+use Rattle.ct_expr.specs.Conditions.{only}
 use Rattle.ct_expr.specs.Meaning.{World, holds}
 use Rattle.ct_query.specs.Answer.{joined_rows, answer_over, answer}
 use Rattle.ct_query.specs.Joins.{Joined, alone, pair, left_only, right_only, row_of, only_source, with_right, with_left, or_else, side_by_side}
 use Rattle.ct_scan.specs.Lists.{all_of}
-use Rattle.ct_query.specs.Steps.{row_in, pairs_of_left, pairs_of_right, rows_of_left, rows_of_right}
-use Rattle.ct_scan.specs.Enough.{AreEnoughLefts, AreEnoughRights}
+use Rattle.ct_query.specs.declared.side.Side.{Side}
+use Rattle.ct_query.specs.declared.side.Side.TheVariants as side
+use Rattle.ct_query.specs.Steps.{row_in, pair_at, ArePartners, pairs_of, pairs_or_alone}
 use Rattle.ct_query.proofs.Through.{all_of-through, only-mapped, only-through, or_else-through}
 
 -- ON, on a joined row
 abbrev on_joined : World → Plan → Joined → Answer Bool
 on_joined world plan one = holds world plan.on (row_in plan one)
 
-pairs_of_left-is : (world : World) (plan : Plan) (rights : List Row) (left : Row)
-    → pairs_of_left world plan rights left ≡ (with_right (on_joined world plan) rights left >>= (λ a. Ok (map (row_in plan) a)))
-pairs_of_left-is world plan rights left = only-through (holds world plan.on) (row_in plan) (pair left) rights
+lefts_pairs : (world : World) (plan : Plan) (rights : List Row) (left : Row)
+    → pairs_of world plan side.Left rights left ≡ (with_right (on_joined world plan) rights left >>= (λ a. Ok (map (row_in plan) a)))
+lefts_pairs world plan rights left = only-through (holds world plan.on) (row_in plan) (pair left) rights
 
-pairs_of_right-is : (world : World) (plan : Plan) (lefts : List Row) (right : Row)
-    → pairs_of_right world plan lefts right ≡ (with_left (on_joined world plan) lefts right >>= (λ a. Ok (map (row_in plan) a)))
-pairs_of_right-is world plan lefts right = only-through (holds world plan.on) (row_in plan) (λ left. pair left right) lefts
+rights_pairs : (world : World) (plan : Plan) (lefts : List Row) (right : Row)
+    → pairs_of world plan side.Right lefts right ≡ (with_left (on_joined world plan) lefts right >>= (λ a. Ok (map (row_in plan) a)))
+rights_pairs world plan lefts right = only-through (holds world plan.on) (row_in plan) (λ left. pair left right) lefts
+
+-- what a condition keeps of the members of lists, where it keeps the same of them before they are joined
+kept_alike : (test : Row → Answer Bool) (join : Row → Row) (some all : List Row) → only (λ row. test (join row)) some ≡ only (λ row. test (join row)) all
+    → only test (map join some) ≡ only test (map join all)
+kept_alike test join some all same = only-mapped test join some ∙ ap (λ (found : Answer (List Row)). found >>= (λ a. Ok (map join a))) same ∙ sym (only-mapped test join all)
 
 -- the pairs among rows that are enough are all pairs
-pub rights_suffice : (world : World) (plan : Plan) (left : Row) (all some : List Row) → AreEnoughRights world.env plan.on left all some
-    → pairs_of_left world plan some left ≡ pairs_of_left world plan all left
-rights_suffice world plan left all some enough =
-    let join : Row → Row = λ right. row_in plan (pair left right) in
-    only-mapped (holds world plan.on) join some ∙ ap (λ (found : Answer (List Row)). found >>= (λ a. Ok (map join a))) (enough world refl) ∙ sym (only-mapped (holds world plan.on) join all)
-
-pub lefts_suffice : (world : World) (plan : Plan) (right : Row) (all some : List Row) → AreEnoughLefts world.env plan.on right all some
-    → pairs_of_right world plan some right ≡ pairs_of_right world plan all right
-lefts_suffice world plan right all some enough =
-    let join : Row → Row = λ left. row_in plan (pair left right) in
-    only-mapped (holds world plan.on) join some ∙ ap (λ (found : Answer (List Row)). found >>= (λ a. Ok (map join a))) (enough world refl) ∙ sym (only-mapped (holds world plan.on) join all)
+pub partners_suffice : (world : World) (plan : Plan) (at : Side) (row : Row) (all some : List Row) → ArePartners at world.env plan.on row all some
+    → pairs_of world plan at some row ≡ pairs_of world plan at all row
+partners_suffice world plan side.Left row all some enough = kept_alike (holds world plan.on) (pair_at side.Left row) some all (enough world refl)
+partners_suffice world plan side.Right row all some enough = kept_alike (holds world plan.on) (pair_at side.Right row) some all (enough world refl)
 
 pub inner_rows : (world : World) (plan : Plan) (lefts rights : List Row) → plan.join ≡ Inner
-    → all_of (pairs_of_left world plan rights) lefts ≡ joined_rows world plan lefts rights
+    → all_of (pairs_of world plan side.Left rights) lefts ≡ joined_rows world plan lefts rights
 inner_rows world plan lefts rights is =
-    all_of-through (map (row_in plan)) refl (map-append (row_in plan)) (pairs_of_left world plan rights) (with_right (on_joined world plan) rights) (pairs_of_left-is world plan rights) lefts
+    all_of-through (map (row_in plan)) refl (map-append (row_in plan)) (pairs_of world plan side.Left rights) (with_right (on_joined world plan) rights) (lefts_pairs world plan rights) lefts
     ∙ rw is
 
 pub left_rows : (world : World) (plan : Plan) (lefts rights : List Row) → plan.join ≡ Left
-    → all_of (rows_of_left world plan rights) lefts ≡ joined_rows world plan lefts rights
+    → all_of (pairs_or_alone world plan side.Left rights) lefts ≡ joined_rows world plan lefts rights
 left_rows world plan lefts rights is =
-    all_of-through (map (row_in plan)) refl (map-append (row_in plan)) (rows_of_left world plan rights) (λ left. with_right (on_joined world plan) rights left >>= (λ found. Ok (or_else (left_only left) found)))
-    (λ left. or_else-through (row_in plan) (left_only left) (with_right (on_joined world plan) rights left) (pairs_of_left world plan rights left) (pairs_of_left-is world plan rights left)) lefts
+    all_of-through (map (row_in plan)) refl (map-append (row_in plan)) (pairs_or_alone world plan side.Left rights) (λ left. with_right (on_joined world plan) rights left >>= (λ found. Ok (or_else (left_only left) found)))
+    (λ left. or_else-through (row_in plan) (left_only left) (with_right (on_joined world plan) rights left) (pairs_of world plan side.Left rights left) (lefts_pairs world plan rights left)) lefts
     ∙ rw is
 
 pub right_rows : (world : World) (plan : Plan) (lefts rights : List Row) → plan.join ≡ Right
-    → all_of (rows_of_right world plan lefts) rights ≡ joined_rows world plan lefts rights
+    → all_of (pairs_or_alone world plan side.Right lefts) rights ≡ joined_rows world plan lefts rights
 right_rows world plan lefts rights is =
-    all_of-through (map (row_in plan)) refl (map-append (row_in plan)) (rows_of_right world plan lefts) (λ right. with_left (on_joined world plan) lefts right >>= (λ found. Ok (or_else (right_only right) found)))
-    (λ right. or_else-through (row_in plan) (right_only right) (with_left (on_joined world plan) lefts right) (pairs_of_right world plan lefts right) (pairs_of_right-is world plan lefts right)) rights
+    all_of-through (map (row_in plan)) refl (map-append (row_in plan)) (pairs_or_alone world plan side.Right lefts) (λ right. with_left (on_joined world plan) lefts right >>= (λ found. Ok (or_else (right_only right) found)))
+    (λ right. or_else-through (row_in plan) (right_only right) (with_left (on_joined world plan) lefts right) (pairs_of world plan side.Right lefts right) (rights_pairs world plan lefts right)) rights
     ∙ rw is
 
 side_by_side-any : (plan : Plan) (lefts rights : List Row) → map (row_of 0 0) (side_by_side lefts rights) ≡ map (row_in plan) (side_by_side lefts rights)

@@ -1,14 +1,11 @@
 -- The comparison of ORDER BY is a total order.
 use Rattle.std.proofs.Common.{◌≡◌, Bool, true, false, List, [], ◌∷◌, Option, Some, None, refl, sym, ap, ◌∙◌}
 use Rattle.std.specs.declared.cmp.Ordering.{Ordering}
-use Rattle.std.specs.Ordering.{is_lt, ordering_reverse, ordering_then}
+use Rattle.std.specs.Ordering.{ordering_reverse, ordering_then}
 use Rattle.std.specs.Option.{option_cmp}
 use Rattle.std.specs.Cmp.{IsTotalOrder, IsStrictWeakOrder, on_total, then_total, back_total}
 use Rattle.std.specs.Cmp.Lexicographic.{options_total}
-use Rattle.std.specs.Fn.{Called, ComparesAs, Mut}
-use Rattle.std.proofs.lemmas.Fn.{always_returns_same}
 use Rattle.std.proofs.lemmas.List.Sorted.{ranks_by}
-use denote.Ref.{Bor}
 use Rattle.ct_types.specs.declared.bound.OrderBy.{OrderBy}
 use Rattle.ct_types.specs.declared.value.Value.{Value}
 use Rattle.ct_types.specs.Order.{value_cmp}
@@ -51,8 +48,3 @@ keys_cmp_total (part ∷ parts) =
 
 pub comes_before_order : (parts : List OrderBy) → IsStrictWeakOrder (comes_before parts)
 comes_before_order parts = ranks_by (keys_cmp_total parts) (λ (one : Shown). one.keys)
-
--- a closure that answers by a comparison
-pub compares_by : {F X : Type 0} {g : Mut F (Bor X × (Bor X × Unit {0})) Ordering} {f : F} (cmp : X → X → Ordering)
-    → ((a : Bor X × (Bor X × Unit {0})) (r : Ordering) (f' : F) → Called g f a r f' → (r ≡ cmp a.0.now a.1.0.now) × (f' ≡ f)) → ComparesAs g (λ x y. is_lt (cmp x y)) f
-compares_by {g = g} {f = f} cmp h = always_returns_same g (λ a r. is_lt r ≡ is_lt (cmp a.0.now a.1.0.now)) f (λ a r f' k. (ap is_lt (h a r f' k).0, (h a r f' k).1))

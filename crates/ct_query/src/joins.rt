@@ -1,6 +1,7 @@
-ghost use Rattle.std.specs.Prelude.{◌≡◌, ◌++◌, IfOk, OnOk, map, replicate};
+ghost use Rattle.std.specs.Prelude.{◌≡◌, ◌++◌, IfOk, IfSome, OnOk, false, map, replicate};
 ghost use Rattle.ct_types.specs.declared.value.Value.TheVariants.{Null as null};
 ghost use Rattle.ct_types.specs.Answers.{Gives};
+ghost use Rattle.ct_query.specs.declared.side.Side.TheVariants.{Left as left_side};
 ghost use Rattle.ct_query.specs.Joins.{pair as a_pair, left_only as a_left, right_only as a_right, row_of, side_by_side};
 ghost use Rattle.ct_scan.specs.Lists.{all_of};
 ghost use Rattle.ct_query.specs.Steps as spec;
@@ -8,9 +9,10 @@ ghost use Rattle.ct_source.specs.Rows.{lent};
 ghost use Rattle.ct_source.specs.Sources.{source_rows};
 
 use crate::lists::append;
+use crate::side::Side;
 use ct_expr::{Env, Versions, holds};
-use ct_scan::{lefts_of, rights_of, stand_alike};
-use ct_source::Source;
+use ct_scan::{index_of_lefts, index_of_rights, lefts_of, rights_of, stand_alike};
+use ct_source::{Index, Source};
 use ct_types::{Copies, List, Memory, Plan, Refusal, Row, Value, push};
 use std::alloc::Global;
 
@@ -60,150 +62,185 @@ fn right_only(alloc: Global, columns: u32, right: &Row) -> Result<Row, Memory>
     Ok(Row(values))
 }
 
-/// The pairs of a left row with these right rows for which ON is true.
-fn true_pairs_of_left<L: Versions>(
+/// A row of a side with a row of the other side: the row of their pair.
+fn pair_at(alloc: Global, side: Side, row: &Row, other: &Row) -> Result<Row, Memory>
+    ensures { IfOk result (λ made. made ≡ spec.pair_at side row.now other.now) }
+{
+    match side {
+        Side::Left => pair(alloc, row, other),
+        Side::Right => pair(alloc, other, row),
+    }
+}
+
+/// A row of a side, and NULL for each column of the other side.
+fn alone_at(alloc: Global, plan: &Plan, side: Side, row: &Row) -> Result<Row, Memory>
+    ensures { IfOk result (λ made. made ≡ spec.row_in plan.now (spec.alone_at side row.now)) }
+{
+    match side {
+        Side::Left => left_only(alloc, row, plan.right),
+        Side::Right => right_only(alloc, plan.left, row),
+    }
+}
+
+/// The pairs of a row of a side with these rows of the other side for which ON is true.
+fn true_pairs<L: Versions>(
     alloc: Global,
     plan: &Plan,
-    left: &Row,
-    rights: &[&Row],
+    side: Side,
+    row: &Row,
+    others: &[&Row],
     env: &Env<'_>,
     versions: &L,
 ) -> Result<List<Row>, Refusal>
-    ensures { Gives (spec.pairs_of_left (record { env = env.now; versions = L.row_of versions.now }) plan.now (lent rights.now) left.now) result }
+    ensures { Gives (spec.pairs_of (record { env = env.now; versions = L.row_of versions.now }) plan.now side (lent others.now) row.now) result }
 {
     let mut found = List::new(alloc);
-    for right in rights {
-        let row = pair(alloc, left, right)?;
-        if holds(alloc, &plan.on, &row, env, versions)? {
-            push(&mut found, row)?;
+    for other in others {
+        let made = pair_at(alloc, side, row, other)?;
+        if holds(alloc, &plan.on, &made, env, versions)? {
+            push(&mut found, made)?;
         }
     }
     Ok(found)
 }
 
-/// The pairs of a left row for which ON is true.
-fn pairs_of_left<L: Versions>(
+/// Rows of the other side, among which are all that make a pair with a row of a side on which ON can be true.
+fn partners<'a>(
     alloc: Global,
     plan: &Plan,
-    left: &Row,
-    rights: Source<'_>,
+    side: Side,
+    row: &Row,
+    others: Source<'a>,
     env: &Env<'_>,
-    versions: &L,
-) -> Result<List<Row>, Refusal>
-    ensures { Gives (spec.pairs_of_left (record { env = env.now; versions = L.row_of versions.now }) plan.now (source_rows rights.entry) left.now) result }
+) -> Result<List<&'a Row>, Memory>
+    ensures { IfOk result (λ made. spec.ArePartners side env.now plan.now.on row.now (source_rows others.entry) (lent made)) }
 {
-    let partners = rights_of(alloc, &plan.on, left, rights, env)?;
-    true_pairs_of_left(alloc, plan, left, partners.as_slice(), env, versions)
+    match side {
+        Side::Left => rights_of(alloc, &plan.on, row, others, env),
+        Side::Right => lefts_of(alloc, &plan.on, others, row, env),
+    }
 }
 
-/// The pairs of a right row with these left rows for which ON is true.
-fn true_pairs_of_right<L: Versions>(
+/// The pairs of a row of a side for which ON is true.
+fn pairs_of<L: Versions>(
     alloc: Global,
     plan: &Plan,
-    lefts: &[&Row],
-    right: &Row,
+    side: Side,
+    row: &Row,
+    others: Source<'_>,
     env: &Env<'_>,
     versions: &L,
 ) -> Result<List<Row>, Refusal>
-    ensures { Gives (spec.pairs_of_right (record { env = env.now; versions = L.row_of versions.now }) plan.now (lent lefts.now) right.now) result }
+    ensures { Gives (spec.pairs_of (record { env = env.now; versions = L.row_of versions.now }) plan.now side (source_rows others.entry) row.now) result }
 {
-    let mut found = List::new(alloc);
-    for left in lefts {
-        let row = pair(alloc, left, right)?;
-        if holds(alloc, &plan.on, &row, env, versions)? {
-            push(&mut found, row)?;
+    let partners = partners(alloc, plan, side, row, others, env)?;
+    true_pairs(alloc, plan, side, row, partners.as_slice(), env, versions)
+}
+
+/// The pairs of a row of a side, or the row with NULLs where there are none.
+fn pairs_or_alone<L: Versions>(
+    alloc: Global,
+    plan: &Plan,
+    side: Side,
+    row: &Row,
+    others: Source<'_>,
+    env: &Env<'_>,
+    versions: &L,
+) -> Result<List<Row>, Refusal>
+    ensures { Gives (spec.pairs_or_alone (record { env = env.now; versions = L.row_of versions.now }) plan.now side (source_rows others.entry) row.now) result }
+{
+    let mut found = pairs_of(alloc, plan, side, row, others, env, versions)?;
+    if found.as_slice().is_empty() {
+        push(&mut found, alone_at(alloc, plan, side, row)?)?;
+    }
+    Ok(found)
+}
+
+/// The joined rows of a row of a side: its pairs, and in an outer join the row with NULLs where there are none.
+fn rows_of<L: Versions>(
+    alloc: Global,
+    plan: &Plan,
+    side: Side,
+    outer: bool,
+    row: &Row,
+    others: Source<'_>,
+    env: &Env<'_>,
+    versions: &L,
+) -> Result<List<Row>, Refusal>
+    ensures { Gives (spec.rows_of (record { env = env.now; versions = L.row_of versions.now }) plan.now side outer (source_rows others.entry) row.now) result }
+{
+    if outer {
+        pairs_or_alone(alloc, plan, side, row, others, env, versions)
+    } else {
+        pairs_of(alloc, plan, side, row, others, env, versions)
+    }
+}
+
+/// The joined rows of each of these rows of a side, in their order.
+fn by_rows<L: Versions>(
+    alloc: Global,
+    plan: &Plan,
+    side: Side,
+    outer: bool,
+    rows: &[&Row],
+    others: Source<'_>,
+    env: &Env<'_>,
+    versions: &L,
+) -> Result<List<Row>, Refusal>
+    ensures { Gives (all_of (spec.rows_of (record { env = env.now; versions = L.row_of versions.now }) plan.now side outer (source_rows others.entry)) (lent rows.now)) result }
+{
+    let mut all = Vec::new(alloc);
+    for row in rows {
+        let found = rows_of(alloc, plan, side, outer, row, others, env, versions)?;
+        append(&mut all, found)?;
+    }
+    Ok(List::from_vec(all))
+}
+
+/// The rows of the other side by a column that ON pins beside the first of several rows of a side. None where there is no such
+/// column, and where they are looked up as they are.
+fn index_beside<'a>(
+    alloc: Global,
+    plan: &Plan,
+    side: Side,
+    rows: &[&Row],
+    others: Source<'a>,
+    env: &Env<'_>,
+) -> Result<Option<Index<'a>>, Memory>
+    ensures { IfOk result (λ made. IfSome made (λ index. index.rows ≡ source_rows others.entry)) }
+{
+    match (side, rows) {
+        (Side::Left, [row, _, ..]) => {
+            index_of_rights(alloc, &plan.on, row, plan.right, others, env)
         }
+        (Side::Right, [row, _, ..]) => {
+            index_of_lefts(alloc, &plan.on, plan.left, others, row, env)
+        }
+        _ => Ok(None),
     }
-    Ok(found)
 }
 
-/// The pairs of a right row for which ON is true.
-fn pairs_of_right<L: Versions>(
+/// The joined rows of each of these rows of a side, in their order. Where ON pins a column of the other side, its rows are
+/// looked up, and sorted once for it where they are not a table with this key.
+pub(crate) fn joined_by<L: Versions>(
     alloc: Global,
     plan: &Plan,
-    lefts: Source<'_>,
-    right: &Row,
+    side: Side,
+    outer: bool,
+    rows: &[&Row],
+    others: Source<'_>,
     env: &Env<'_>,
     versions: &L,
 ) -> Result<List<Row>, Refusal>
-    ensures { Gives (spec.pairs_of_right (record { env = env.now; versions = L.row_of versions.now }) plan.now (source_rows lefts.entry) right.now) result }
+    ensures { Gives (all_of (spec.rows_of (record { env = env.now; versions = L.row_of versions.now }) plan.now side outer (source_rows others.entry)) (lent rows.now)) result }
 {
-    let partners = lefts_of(alloc, &plan.on, lefts, right, env)?;
-    true_pairs_of_right(alloc, plan, partners.as_slice(), right, env, versions)
-}
-
-/// The pairs of a left row, or the row with NULLs where there are none.
-fn rows_of_left<L: Versions>(
-    alloc: Global,
-    plan: &Plan,
-    left: &Row,
-    rights: Source<'_>,
-    env: &Env<'_>,
-    versions: &L,
-) -> Result<List<Row>, Refusal>
-    ensures { Gives (spec.rows_of_left (record { env = env.now; versions = L.row_of versions.now }) plan.now (source_rows rights.entry) left.now) result }
-{
-    let mut found = pairs_of_left(alloc, plan, left, rights, env, versions)?;
-    if found.as_slice().is_empty() {
-        push(&mut found, left_only(alloc, left, plan.right)?)?;
+    match index_beside(alloc, plan, side, rows, others, env)? {
+        Some(index) => {
+            let others = Source::Indexed(&index);
+            by_rows(alloc, plan, side, outer, rows, others, env, versions)
+        }
+        None => by_rows(alloc, plan, side, outer, rows, others, env, versions),
     }
-    Ok(found)
-}
-
-/// The pairs of a right row, or the row with NULLs where there are none.
-fn rows_of_right<L: Versions>(
-    alloc: Global,
-    plan: &Plan,
-    lefts: Source<'_>,
-    right: &Row,
-    env: &Env<'_>,
-    versions: &L,
-) -> Result<List<Row>, Refusal>
-    ensures { Gives (spec.rows_of_right (record { env = env.now; versions = L.row_of versions.now }) plan.now (source_rows lefts.entry) right.now) result }
-{
-    let mut found = pairs_of_right(alloc, plan, lefts, right, env, versions)?;
-    if found.as_slice().is_empty() {
-        push(&mut found, right_only(alloc, plan.left, right)?)?;
-    }
-    Ok(found)
-}
-
-/// The pairs of each of these left rows, in their order.
-fn inner_by_left<L: Versions>(
-    alloc: Global,
-    plan: &Plan,
-    lefts: &[&Row],
-    rights: Source<'_>,
-    env: &Env<'_>,
-    versions: &L,
-) -> Result<List<Row>, Refusal>
-    ensures { Gives (all_of (spec.pairs_of_left (record { env = env.now; versions = L.row_of versions.now }) plan.now (source_rows rights.entry)) (lent lefts.now)) result }
-{
-    let mut all = Vec::new(alloc);
-    for left in lefts {
-        let found = pairs_of_left(alloc, plan, left, rights, env, versions)?;
-        append(&mut all, found)?;
-    }
-    Ok(List::from_vec(all))
-}
-
-/// The pairs of each of these right rows, in their order.
-fn inner_by_right<L: Versions>(
-    alloc: Global,
-    plan: &Plan,
-    lefts: Source<'_>,
-    rights: &[&Row],
-    env: &Env<'_>,
-    versions: &L,
-) -> Result<List<Row>, Refusal>
-    ensures { Gives (all_of (spec.pairs_of_right (record { env = env.now; versions = L.row_of versions.now }) plan.now (source_rows lefts.entry)) (lent rights.now)) result }
-{
-    let mut all = Vec::new(alloc);
-    for right in rights {
-        let found = pairs_of_right(alloc, plan, lefts, right, env, versions)?;
-        append(&mut all, found)?;
-    }
-    Ok(List::from_vec(all))
 }
 
 /// The rows of an INNER JOIN, by left row and then right row. Where they stand alike by right row, as those of a table with
@@ -216,53 +253,33 @@ pub(crate) fn inner<L: Versions>(
     env: &Env<'_>,
     versions: &L,
 ) -> Result<List<Row>, Refusal>
-    ensures { Gives (all_of (spec.pairs_of_left (record { env = env.now; versions = L.row_of versions.now }) plan.now (source_rows rights.entry)) (source_rows lefts.entry)) result }
+    ensures { Gives (all_of (spec.rows_of (record { env = env.now; versions = L.row_of versions.now }) plan.now left_side false (source_rows rights.entry)) (source_rows lefts.entry)) result }
 {
     if stand_alike(alloc, &plan.on, lefts, rights, env)? {
         let rights = rights.all(alloc)?;
-        inner_by_right(alloc, plan, lefts, rights.as_slice(), env, versions)
+        by_rows(
+            alloc,
+            plan,
+            Side::Right,
+            false,
+            rights.as_slice(),
+            lefts,
+            env,
+            versions,
+        )
     } else {
         let lefts = lefts.all(alloc)?;
-        inner_by_left(alloc, plan, lefts.as_slice(), rights, env, versions)
+        joined_by(
+            alloc,
+            plan,
+            Side::Left,
+            false,
+            lefts.as_slice(),
+            rights,
+            env,
+            versions,
+        )
     }
-}
-
-/// The rows of a LEFT JOIN, by left row and then right row.
-pub(crate) fn left_outer<L: Versions>(
-    alloc: Global,
-    plan: &Plan,
-    lefts: &[&Row],
-    rights: Source<'_>,
-    env: &Env<'_>,
-    versions: &L,
-) -> Result<List<Row>, Refusal>
-    ensures { Gives (all_of (spec.rows_of_left (record { env = env.now; versions = L.row_of versions.now }) plan.now (source_rows rights.entry)) (lent lefts.now)) result }
-{
-    let mut all = Vec::new(alloc);
-    for left in lefts {
-        let found = rows_of_left(alloc, plan, left, rights, env, versions)?;
-        append(&mut all, found)?;
-    }
-    Ok(List::from_vec(all))
-}
-
-/// The rows of a RIGHT JOIN, by right row and then left row.
-pub(crate) fn right_outer<L: Versions>(
-    alloc: Global,
-    plan: &Plan,
-    lefts: Source<'_>,
-    rights: &[&Row],
-    env: &Env<'_>,
-    versions: &L,
-) -> Result<List<Row>, Refusal>
-    ensures { Gives (all_of (spec.rows_of_right (record { env = env.now; versions = L.row_of versions.now }) plan.now (source_rows lefts.entry)) (lent rights.now)) result }
-{
-    let mut all = Vec::new(alloc);
-    for right in rights {
-        let found = rows_of_right(alloc, plan, lefts, right, env, versions)?;
-        append(&mut all, found)?;
-    }
-    Ok(List::from_vec(all))
 }
 
 /// Each left row with the right row at its place.

@@ -6,6 +6,7 @@ mod laws;
 mod lists;
 mod query;
 mod shown;
+mod side;
 mod sorting;
 
 pub use laws::{

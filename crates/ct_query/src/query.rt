@@ -5,8 +5,9 @@ ghost use Rattle.ct_query.specs.Joins.{only_source};
 ghost use Rattle.ct_source.specs.Rows.{lent};
 ghost use Rattle.ct_source.specs.Sources.{source_rows};
 
-use crate::joins::{applied, inner, left_outer, pair, right_outer};
+use crate::joins::{applied, inner, joined_by, pair};
 use crate::shown::Shown;
+use crate::side::Side;
 use crate::sorting::sorted;
 use ct_expr::{Env, Versions, eval};
 use ct_scan::rows_where;
@@ -173,7 +174,9 @@ fn one_source<L: Versions>(
 ///
 /// Where WHERE pins the key of the only source's table, its row is looked up; so are the right rows that ON pins for a
 /// left row, and in a RIGHT JOIN the left rows that it pins for a right row, and also in an INNER JOIN of a table with a
-/// list whose rows pin rising keys. Else all rows of the source are tested.
+/// list whose rows pin rising keys. Where ON pins a column that is not the key of a table, the rows are sorted by it once, so
+/// that a join takes n log n steps for n rows of both sources, and one for each pair whose column has the pinned value. Else
+/// all rows of the source are tested.
 ///
 /// `Overflow`: a sum, difference, product or sign does not fit 64 bits in ON on a pair, in WHERE on a joined row, or in
 /// an item or an expression of ORDER BY on a kept row. `Memory` is the only other error.
@@ -196,12 +199,14 @@ pub fn select<L: Versions>(
         }
         Join::Left => {
             let lefts = left.all(alloc)?;
-            let rows = left_outer(alloc, plan, lefts.as_slice(), right, env, versions)?;
+            let lefts = lefts.as_slice();
+            let rows = joined_by(alloc, plan, Side::Left, true, lefts, right, env, versions)?;
             joined_answer(alloc, plan, rows, env, versions)
         }
         Join::Right => {
             let rights = right.all(alloc)?;
-            let rows = right_outer(alloc, plan, left, rights.as_slice(), env, versions)?;
+            let rights = rights.as_slice();
+            let rows = joined_by(alloc, plan, Side::Right, true, rights, left, env, versions)?;
             joined_answer(alloc, plan, rows, env, versions)
         }
         Join::Apply => {

@@ -1,5 +1,5 @@
 -- The pairs of a table's rows, which rise by their key, with right rows that pin it to values that rise.
-use Rattle.std.proofs.Common.{◌≡◌, ℕ, ◌+◌, ◌<◌, ◌≤◌, Bool, true, false, cond, List, [], ◌∷◌, length, Option, Some, None, option_to_list, Ok, Err, refl, sym, ap, subst, ◌∙◌, ◌⊎◌, inl, inr, if◌then◌else◌, arith}
+use Rattle.std.proofs.Common.{◌≡◌, ℕ, ◌+◌, ◌<◌, ◌≤◌, Bool, true, false, cond, List, [], ◌∷◌, length, Option, Some, None, option_to_list, Ok, Err, refl, sym, ap, subst, ◌∙◌, inl, inr, if◌then◌else◌, arith}
 use Rattle.std.specs.List.{AllByRecursion, filter}
 use Rattle.std.specs.declared.cmp.Ordering.{Ordering}
 use Rattle.std.specs.declared.cmp.Ordering.TheVariants.{Less, Equal, Greater}
@@ -21,8 +21,9 @@ use Rattle.ct_source.specs.Rows.{HasKeyColumns, IsWhole}
 use Rattle.ct_source.proofs.OneColumn.{one_has_value}
 use Rattle.ct_expr.specs.Environment.{Environment}
 use Rattle.ct_expr.specs.Meaning.{World, holds}
+use Rattle.ct_expr.specs.Numbers.{is_null}
 use Rattle.ct_scan.specs.Enough.{StandAlike, pair_row}
-use Rattle.ct_scan.specs.Steps.{pin_of, IsAbove, PinsRise}
+use Rattle.ct_scan.specs.Steps.{pin_of, with_pinned, IsAbove, PinsRise}
 use Rattle.ct_scan.proofs.Candidates.{pinned_are_lefts}
 use Rattle.ct_scan.proofs.Crossing as crossing
 
@@ -84,12 +85,19 @@ module _ (world : World) (schema : Schema) (at : ℕ) (on : BoundExpr) (columns 
   within : at < length schema.columns
   within = let place = (subst (λ (ids : List ℕ). AllByRecursion (λ id. (1 ≤ id) × (id ≤ length schema.columns)) ids) only_key columns).0 in omega arith
 
+  still_none : (null : Bool) (kept : List Row) → [] ≡ kept → [] ≡ (if null then [] else kept)
+  still_none true kept e = refl
+  still_none false kept e = e
+
   -- a row with another key makes no pair
   fails : (left right : Row) → IsWhole schema left → IsPinned right → is_eq (key_cmp (key left) (wanted right)) ≡ false → Fails left right
   fails left right whole pins apart =
-      let none : [] ≡ filter (has_value at (or_null (pin right))) (left ∷ []) =
-      sym (one_has_value schema (left ∷ []) at (or_null (pin right)) (tt, tt) (whole, tt) columns only_key ∙ ap (λ (b : Bool). option_to_list (cond b (Some left) None)) apart) in
-      false_on left (test (pair_row left right)) (pinned_are_lefts world.env (length schema.columns) at on (or_null (pin right)) right (left ∷ []) [] within (whole, tt) pins none world refl)
+      let value = or_null (pin right) in
+      let none : [] ≡ filter (has_value at value) (left ∷ []) =
+      sym (one_has_value schema (left ∷ []) at value (tt, tt) (whole, tt) columns only_key ∙ ap (λ (b : Bool). option_to_list (cond b (Some left) None)) apart) in
+      let asked : [] ≡ with_pinned at (pin right) (left ∷ []) =
+      still_none (is_null value) (filter (has_value at value) (left ∷ [])) none ∙ ap (λ (o : Option Value). with_pinned at o (left ∷ [])) (sym pins) in
+      false_on left (test (pair_row left right)) (pinned_are_lefts world.env (length schema.columns) at on right (left ∷ []) [] within (whole, tt) asked world refl)
 
   abbrev Rises : Row → Row → Type 0
   Rises left later = key_cmp (key left) (key later) ≡ Less

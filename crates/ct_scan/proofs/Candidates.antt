@@ -1,19 +1,24 @@
 -- Which rows are enough: all of them, and those with the value that the condition pins a column to.
-use Rattle.std.proofs.Common.{◌≡◌, ℕ, zero, suc, ◌+◌, ◌-◌, ◌<◌, ◌≤◌, nat_lt, Bool, true, false, cond, List, [], ◌∷◌, ◌++◌, length, Option, Some, None, refl, sym, ap, ◌∙◌, if◌then◌else◌, arith, tests}
+use Rattle.std.proofs.Common.{◌≡◌, ℕ, zero, suc, ◌+◌, ◌-◌, ◌<◌, ◌≤◌, nat_lt, Bool, true, false, List, [], ◌∷◌, ◌++◌, length, Option, Some, None, Ok, refl, sym, ap, ◌∙◌, if◌then◌else◌, arith, tests}
 use Rattle.std.specs.List.{AllByRecursion, filter, slice_get}
 use Rattle.std.specs.Ordering.{is_eq}
-use Rattle.ct_types.proofs.Lists.{all_everywhere, all_join}
+use Rattle.ct_types.proofs.Lists.{all_everywhere}
+use Rattle.ct_types.specs.Answers.{Answer}
 use Rattle.ct_types.specs.Order.{value_cmp}
 use Rattle.ct_types.specs.declared.bound.BoundExpr.{BoundExpr}
 use Rattle.ct_types.specs.declared.value.Row.{Row}
 use Rattle.ct_types.specs.declared.value.Value.{Value}
+use Rattle.ct_model.proofs.Members.{all_weaken}
+use Rattle.ct_source.proofs.OneColumn.{filter_same}
 use Rattle.ct_source.specs.Cells.{or_null, has_value}
 use Rattle.ct_expr.specs.Conditions.{only}
 use Rattle.ct_expr.specs.Environment.{Environment}
 use Rattle.ct_expr.specs.Meaning.{holds}
+use Rattle.ct_expr.specs.Numbers.{is_null}
 use Rattle.ct_scan.specs.Readings.{pinned}
 use Rattle.ct_scan.specs.Seen.{Seen, nothing, Agrees}
-use Rattle.ct_scan.proofs.Filtering.{pinned_over, pinned_rows}
+use Rattle.ct_scan.specs.Steps.{with_pinned}
+use Rattle.ct_scan.proofs.Filtering.{never_null, pinned_over, pinned_rows}
 use Rattle.ct_scan.specs.Enough.{AreEnough, AreEnoughLefts, AreEnoughRights, pair_row}
 
 -- what is seen of a row that stands from a place on
@@ -75,39 +80,60 @@ left_agrees left right place v e =
 
 -- ---- partners
 
-filter_same : (p q : Row → Bool) (rows : List Row) → AllByRecursion (λ row. p row ≡ q row) rows → filter p rows ≡ filter q rows
-filter_same p q [] all = refl
-filter_same p q (row ∷ rows) all =
-    ap (λ (b : Bool). cond b (row ∷ filter p rows) (filter p rows)) all.0 ∙ ap (λ (more : List Row). cond (q row) (row ∷ more) more) (filter_same p q rows all.1)
-
-pub pinned_are_lefts : (env : Environment) (columns at : ℕ) (on : BoundExpr) (v : Value) (right : Row) (all some : List Row)
-    → at < columns → AllByRecursion (λ (left : Row). length left.0 ≡ columns) all → pinned env (seen_from columns right) at on ≡ Some v
-    → some ≡ filter (has_value at v) all → AreEnoughLefts env (Some on) right all some
-pinned_are_lefts env columns at on v right all some within whole pins same world is =
-    let here : pinned world.env (seen_from columns right) at on ≡ Some v = ap (λ (e : Environment). pinned e (seen_from columns right) at on) is ∙ pins in
-    let agree : AllByRecursion (λ (left : Row). Agrees (seen_from columns right) (pair_row left right)) all =
-    all_join (λ (left : Row). length left.0 ≡ columns) (λ (left : Row). length left.0 ≡ columns) (λ (left : Row). Agrees (seen_from columns right) (pair_row left right)) (λ left one other. right_agrees columns right left one) all whole whole in
-    let alike : AllByRecursion (λ (left : Row). has_value at v (pair_row left right) ≡ has_value at v left) all =
-    all_join (λ (left : Row). length left.0 ≡ columns) (λ (left : Row). length left.0 ≡ columns) (λ (left : Row). has_value at v (pair_row left right) ≡ has_value at v left) (λ left one other. front_value at v left right columns within one) all whole whole in
-    ap (λ (rows : List Row). only (λ left. holds world (Some on) (pair_row left right)) rows) (same ∙ sym (filter_same (λ left. has_value at v (pair_row left right)) (has_value at v) all alike))
-    ∙ sym (pinned_over world (seen_from columns right) at on v (λ left. pair_row left right) all agree here)
+-- what a test keeps of the rows that are to be asked is what it keeps of all, where it keeps none if the value is NULL, and else those
+-- that have it
+asked_alone : (test : Row → Answer Bool) (at : ℕ) (o : Option Value) (all some : List Row) → some ≡ with_pinned at o all
+    → ((v : Value) → o ≡ Some v → is_null v ≡ true → only test all ≡ Ok []) → ((v : Value) → o ≡ Some v → only test all ≡ only test (filter (has_value at v) all))
+    → only test some ≡ only test all
+asked_alone test at None all some same none kept = ap (only test) same
+asked_alone test at (Some v) all some same none kept = by (is_null v) refl same
   where
-    front_value : (at : ℕ) (v : Value) (left right : Row) (columns : ℕ) → at < columns → length left.0 ≡ columns → has_value at v (pair_row left right) ≡ has_value at v left
-    front_value at v left right columns within whole =
+    by : (b : Bool) → is_null v ≡ b → some ≡ (if b then [] else filter (has_value at v) all) → only test some ≡ only test all
+    by true null same = ap (only test) same ∙ sym (none v refl null)
+    by false null same = ap (only test) same ∙ sym (kept v refl)
+
+pub pinned_are_lefts : (env : Environment) (columns at : ℕ) (on : BoundExpr) (right : Row) (all some : List Row)
+    → at < columns → AllByRecursion (λ (left : Row). length left.0 ≡ columns) all
+    → some ≡ with_pinned at (pinned env (seen_from columns right) at on) all → AreEnoughLefts env (Some on) right all some
+pinned_are_lefts env columns at on right all some within whole same world is =
+    asked_alone (λ left. holds world (Some on) (pair_row left right)) at (pinned env (seen_from columns right) at on) all some same
+    (λ v pins null. never_null world (seen_from columns right) at on v (λ left. pair_row left right) all agree (here v pins) null)
+    (λ v pins.
+    pinned_over world (seen_from columns right) at on v (λ left. pair_row left right) all agree (here v pins)
+    ∙ ap (λ (rows : List Row). only (λ left. holds world (Some on) (pair_row left right)) rows) (filter_same (λ left. has_value at v (pair_row left right)) (has_value at v) all (alike v)))
+  where
+    here : (v : Value) → pinned env (seen_from columns right) at on ≡ Some v → pinned world.env (seen_from columns right) at on ≡ Some v
+    here v pins = ap (λ (e : Environment). pinned e (seen_from columns right) at on) is ∙ pins
+
+    agree : AllByRecursion (λ (left : Row). Agrees (seen_from columns right) (pair_row left right)) all
+    agree = all_weaken (λ (left : Row). length left.0 ≡ columns) (λ (left : Row). Agrees (seen_from columns right) (pair_row left right)) (λ left wide. right_agrees columns right left wide) all whole
+
+    front_value : (v : Value) (left : Row) → length left.0 ≡ columns → has_value at v (pair_row left right) ≡ has_value at v left
+    front_value v left wide =
         let inside : at < length left.0 = omega arith in
         ap (λ (o : Option Value). is_eq (value_cmp (or_null o) v)) (in_front left.0 right.0 at inside)
 
-pub pinned_are_rights : (env : Environment) (at place : ℕ) (on : BoundExpr) (v : Value) (left : Row) (all some : List Row)
-    → place ≡ at + length left.0 → pinned env (seen_from 0 left) place on ≡ Some v
-    → some ≡ filter (has_value at v) all → AreEnoughRights env (Some on) left all some
-pinned_are_rights env at place on v left all some behind_left pins same world is =
-    let here : pinned world.env (seen_from 0 left) place on ≡ Some v = ap (λ (e : Environment). pinned e (seen_from 0 left) place on) is ∙ pins in
-    let agree : AllByRecursion (λ (right : Row). Agrees (seen_from 0 left) (pair_row left right)) all = all_everywhere (λ (right : Row). Agrees (seen_from 0 left) (pair_row left right)) (λ right. left_agrees left right) all in
-    let alike : AllByRecursion (λ (right : Row). has_value place v (pair_row left right) ≡ has_value at v right) all =
-    all_everywhere (λ (right : Row). has_value place v (pair_row left right) ≡ has_value at v right) (λ right. back_value right) all in
-    ap (λ (rows : List Row). only (λ right. holds world (Some on) (pair_row left right)) rows) (same ∙ sym (filter_same (λ right. has_value place v (pair_row left right)) (has_value at v) all alike))
-    ∙ sym (pinned_over world (seen_from 0 left) place on v (λ right. pair_row left right) all agree here)
+    alike : (v : Value) → AllByRecursion (λ (left : Row). has_value at v (pair_row left right) ≡ has_value at v left) all
+    alike v = all_weaken (λ (left : Row). length left.0 ≡ columns) (λ (left : Row). has_value at v (pair_row left right) ≡ has_value at v left) (λ left wide. front_value v left wide) all whole
+
+pub pinned_are_rights : (env : Environment) (at place : ℕ) (on : BoundExpr) (left : Row) (all some : List Row)
+    → place ≡ at + length left.0 → some ≡ with_pinned at (pinned env (seen_from 0 left) place on) all → AreEnoughRights env (Some on) left all some
+pinned_are_rights env at place on left all some behind_left same world is =
+    asked_alone (λ right. holds world (Some on) (pair_row left right)) at (pinned env (seen_from 0 left) place on) all some same
+    (λ v pins null. never_null world (seen_from 0 left) place on v (λ right. pair_row left right) all agree (here v pins) null)
+    (λ v pins.
+    pinned_over world (seen_from 0 left) place on v (λ right. pair_row left right) all agree (here v pins)
+    ∙ ap (λ (rows : List Row). only (λ right. holds world (Some on) (pair_row left right)) rows) (filter_same (λ right. has_value place v (pair_row left right)) (has_value at v) all (alike v)))
   where
-    back_value : (right : Row) → has_value place v (pair_row left right) ≡ has_value at v right
-    back_value right =
+    here : (v : Value) → pinned env (seen_from 0 left) place on ≡ Some v → pinned world.env (seen_from 0 left) place on ≡ Some v
+    here v pins = ap (λ (e : Environment). pinned e (seen_from 0 left) place on) is ∙ pins
+
+    agree : AllByRecursion (λ (right : Row). Agrees (seen_from 0 left) (pair_row left right)) all
+    agree = all_everywhere (λ (right : Row). Agrees (seen_from 0 left) (pair_row left right)) (λ right. left_agrees left right) all
+
+    back_value : (v : Value) (right : Row) → has_value place v (pair_row left right) ≡ has_value at v right
+    back_value v right =
         ap (λ (n : ℕ). has_value n v (pair_row left right)) behind_left ∙ ap (λ (o : Option Value). is_eq (value_cmp (or_null o) v)) (behind left.0 right.0 at)
+
+    alike : (v : Value) → AllByRecursion (λ (right : Row). has_value place v (pair_row left right) ≡ has_value at v right) all
+    alike v = all_everywhere (λ (right : Row). has_value place v (pair_row left right) ≡ has_value at v right) (λ right. back_value v right) all

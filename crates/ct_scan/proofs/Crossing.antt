@@ -1,5 +1,5 @@
 -- The pairs of two lists stand alike by the members of either, where no two of them cross.
-use Rattle.std.proofs.Common.{◌≡◌, Bool, true, false, cond, List, [], ◌∷◌, ◌++◌, map, Ok, Err, refl, sym, ap, ◌∙◌, ◌⊎◌, inl, inr}
+use Rattle.std.proofs.Common.{◌≡◌, Bool, false, cond, List, [], ◌∷◌, ◌++◌, map, Ok, Err, refl, ap, ◌∙◌, ◌⊎◌, inl, inr}
 use Rattle.std.specs.List.{AllByRecursion}
 use Rattle.ct_types.specs.Answers.{Answer, ◌>>=◌}
 use Rattle.ct_expr.specs.Conditions.{only}

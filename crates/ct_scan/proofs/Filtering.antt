@@ -9,6 +9,7 @@ use Rattle.ct_types.proofs.Lists.{all_everywhere}
 use Rattle.ct_source.specs.Cells.{has_value}
 use Rattle.ct_expr.specs.Conditions.{only}
 use Rattle.ct_expr.specs.Meaning.{World, on, meaning, holds}
+use Rattle.ct_expr.specs.Numbers.{is_null}
 use Rattle.ct_scan.specs.Laws.{PinnedOver, PinnedRows}
 use Rattle.ct_scan.specs.Readings.{Reading, reading, pinned, pin_of}
 use Rattle.ct_scan.specs.Seen.{Seen, nothing, Agrees}
@@ -37,12 +38,28 @@ parts_of told v e = by told.quiet told.pins e
     by true pins e = (refl, e)
     by false pins e = absurd cc
 
-left_out : (world : World) (seen : Seen) (at : ℕ) (condition : BoundExpr) (v : Value) → pinned world.env seen at condition ≡ Some v
-    → (row : Row) → Agrees seen row → has_value at v row ≡ false → holds world (Some condition) row ≡ Ok false
-left_out world seen at condition v pins row agrees other =
+-- a condition is false on a row that cannot have the value that it pins a column to
+out_by : (world : World) (seen : Seen) (at : ℕ) (condition : BoundExpr) (v : Value) → pinned world.env seen at condition ≡ Some v
+    → (row : Row) → Agrees seen row → ((has_value at v row ≡ true) × (is_null v ≡ false) → false ≡ true) → holds world (Some condition) row ≡ Ok false
+out_by world seen at condition v pins row agrees cannot =
     let told = parts_of (reading world.env seen at condition) v pins in
     let is : IsOf (on world row) seen at agrees (reading world.env seen at condition) (meaning (on world row) condition) = every (on world row) seen at agrees condition in
-    not_true (meaning (on world row) condition).truth (is.truth told.0) (λ e. sym other ∙ is.pins v told.1 e)
+    not_true (meaning (on world row) condition).truth (is.truth told.0) (λ e. cannot (is.pins v told.1 e))
+
+left_out : (world : World) (seen : Seen) (at : ℕ) (condition : BoundExpr) (v : Value) → pinned world.env seen at condition ≡ Some v
+    → (row : Row) → Agrees seen row → has_value at v row ≡ false → holds world (Some condition) row ≡ Ok false
+left_out world seen at condition v pins row agrees other = out_by world seen at condition v pins row agrees (λ has. sym other ∙ has.0)
+
+none_kept : {A : Type 0} (test : A → Answer Bool) (P : A → Type 0) → ((x : A) → P x → test x ≡ Ok false) → (xs : List A) → AllByRecursion P xs → only test xs ≡ Ok []
+none_kept test P out [] all = refl
+none_kept test P out (x ∷ xs) all = rw (out x all.0, none_kept test P out xs all.1) refl
+
+-- of rows that have the values that are seen, a condition keeps none where it pins a column to NULL
+pub never_null : (world : World) (seen : Seen) (at : ℕ) (condition : BoundExpr) (v : Value) (joined : Row → Row) (rows : List Row)
+    → AllByRecursion (λ row. Agrees seen (joined row)) rows → pinned world.env seen at condition ≡ Some v → is_null v ≡ true
+    → only (λ row. holds world (Some condition) (joined row)) rows ≡ Ok []
+never_null world seen at condition v joined rows agree pins null =
+    none_kept (λ row. holds world (Some condition) (joined row)) (λ row. Agrees seen (joined row)) (λ row agrees. out_by world seen at condition v pins (joined row) agrees (λ has. sym has.1 ∙ null)) rows agree
 
 pub pinned_over : PinnedOver
 pinned_over world seen at condition v joined rows agree pins =

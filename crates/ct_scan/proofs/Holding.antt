@@ -24,7 +24,7 @@ use Rattle.ct_types.proofs.Tests.{both}
 use Rattle.ct_expr.specs.Functions.{or_null, counted_or_null}
 use Rattle.ct_expr.specs.Logic.{Truth}
 use Rattle.ct_expr.specs.Meaning.{Scene, Meaning, Operand, chain, conjoined, disjoined, listed, of_two, meaning_rule, row_version_rule, scalar_rule, operand_rule, meaning, row_version, scalar, operand}
-use Rattle.ct_expr.specs.Numbers.{negative, compare}
+use Rattle.ct_expr.specs.Numbers.{negative, compare, is_null}
 use Rattle.ct_source.specs.Cells as cells
 use Rattle.ct_scan.specs.Seen.{Seen, value_at, Agrees}
 use Rattle.ct_scan.specs.Readings as r
@@ -40,13 +40,17 @@ module _ (s : Scene) (seen : Seen) (at : ℕ) (agrees : Agrees seen s.row) where
   abbrev cell : Value
   cell = cells.cell at s.row
 
+  -- the column has this value, which is not NULL
+  abbrev pub Has : Value → Type 0
+  Has x = (is_eq (value_cmp cell x) ≡ true) × (is_null x ≡ false)
+
   -- what a reading tells holds of a meaning
   pub record IsOf (told : Reading) (m : Meaning) : Type 0 where
     pub value : told.quiet ≡ true → is_ok m.value ≡ true
     pub truth : told.quiet ≡ true → is_ok m.truth ≡ true
     pub is_column : told.is_column ≡ true → m.value ≡ Ok cell
     pub known : (x : Value) → told.known ≡ Some x → m.value ≡ Ok x
-    pub pins : (x : Value) → told.pins ≡ Some x → m.truth ≡ Ok (Some true) → is_eq (value_cmp cell x) ≡ true
+    pub pins : (x : Value) → told.pins ≡ Some x → m.truth ≡ Ok (Some true) → Has x
 
   only_quiet : (quiet : Bool) (m : Meaning) → (quiet ≡ true → is_ok m.value ≡ true) → (quiet ≡ true → is_ok m.truth ≡ true)
       → IsOf (record { quiet = quiet; is_column = false; known = None; pins = None }) m
@@ -108,9 +112,13 @@ module _ (s : Scene) (seen : Seen) (at : ℕ) (agrees : Agrees seen s.row) where
 
   side_pins : (p q : Bool) (known_a known_b : Option Value) (a b : Answer Value) (x : Value)
       → (p ≡ true → a ≡ Ok cell) → (q ≡ true → b ≡ Ok cell) → ((y : Value) → known_a ≡ Some y → a ≡ Ok y) → ((y : Value) → known_b ≡ Some y → b ≡ Ok y)
-      → (if p then known_b else (if q then known_a else None)) ≡ Some x → equality a b ≡ Ok (Some true) → is_eq (value_cmp cell x) ≡ true
-  side_pins true q known_a known_b a b x here_a here_b is_a is_b is e = equal_values cell x (sides a b cell x (here_a refl) (is_b x is) e)
-  side_pins false true known_a known_b a b x here_a here_b is_a is_b is e = equal_turned x cell (equal_values x cell (sides a b x cell (is_a x is) (here_b refl) e))
+      → (if p then known_b else (if q then known_a else None)) ≡ Some x → equality a b ≡ Ok (Some true) → Has x
+  side_pins true q known_a known_b a b x here_a here_b is_a is_b is e =
+      let equal = equal_values cell x (sides a b cell x (here_a refl) (is_b x is) e) in
+      (equal.0, equal.1.1)
+  side_pins false true known_a known_b a b x here_a here_b is_a is_b is e =
+      let equal = equal_values x cell (sides a b x cell (is_a x is) (here_b refl) e) in
+      (equal_turned x cell equal.0, equal.1.0)
   side_pins false false known_a known_b a b x here_a here_b is_a is_b is e = absurd cc
 
   -- what a comparison of two such pins
@@ -118,7 +126,7 @@ module _ (s : Scene) (seen : Seen) (at : ℕ) (agrees : Agrees seen s.row) where
   compared operator a b = pins_rule (e.Compare operator a b)
 
   compare_pins : (operator : Comparison) (ra rb : Reading) (a b : Meaning) → IsOf ra a → IsOf rb b → (x : Value) → compared operator ra rb ≡ Some x
-      → of_two (compare operator) a b ≡ Ok (Some true) → is_eq (value_cmp cell x) ≡ true
+      → of_two (compare operator) a b ≡ Ok (Some true) → Has x
   compare_pins comparison.Equal ra rb a b ia ib x is e = side_pins ra.is_column rb.is_column ra.known rb.known a.value b.value x ia.is_column ib.is_column ia.known ib.known is e
   compare_pins comparison.NotEqual ra rb a b ia ib x is e = absurd cc
   compare_pins comparison.Less ra rb a b ia ib x is e = absurd cc
@@ -210,13 +218,11 @@ module _ (s : Scene) (seen : Seen) (at : ℕ) (agrees : Agrees seen s.row) where
       let all = both (told part).quiet (all_quiet (tellings parts)) quiet in
       comes_then (listed so_far (meant part)) _ (comes_one (meant part).value _ (part.1.value all.0)) (λ made. key_comes made parts all.1)
 
-  either_pins : (first more : Option Value) (x : Value) → ((y : Value) → first ≡ Some y → is_eq (value_cmp cell y) ≡ true)
-      → ((y : Value) → more ≡ Some y → is_eq (value_cmp cell y) ≡ true) → option_or first more ≡ Some x → is_eq (value_cmp cell x) ≡ true
+  either_pins : (first more : Option Value) (x : Value) → ((y : Value) → first ≡ Some y → Has y) → ((y : Value) → more ≡ Some y → Has y) → option_or first more ≡ Some x → Has x
   either_pins None more x here after is = after x is
   either_pins (Some y) more x here after is = here x is
 
-  conjunction_pins : (t : Truth) (parts : List E) (x : Value) → first_pin (tellings parts) ≡ Some x → chain conjoined t (meanings parts) ≡ Ok (Some true)
-      → is_eq (value_cmp cell x) ≡ true
+  conjunction_pins : (t : Truth) (parts : List E) (x : Value) → first_pin (tellings parts) ≡ Some x → chain conjoined t (meanings parts) ≡ Ok (Some true) → Has x
   conjunction_pins t [] x is e = absurd cc
   conjunction_pins t (part ∷ parts) x is e =
       let rest = rest_true t (meant part) (meanings parts) e in

@@ -63,12 +63,13 @@ equal_order Less e = cc
 equal_order Equal e = refl
 equal_order Greater e = cc
 
-neither_null : (p q : Bool) (o : Ordering) → (if p then None else (if q then None else Some (holds comparison.Equal o))) ≡ Some true → is_eq o ≡ true
+neither_null : (p q : Bool) (o : Ordering) → (if p then None else (if q then None else Some (holds comparison.Equal o))) ≡ Some true → (is_eq o ≡ true) × ((p ≡ false) × (q ≡ false))
 neither_null true q o e = absurd cc
 neither_null false true o e = absurd cc
-neither_null false false o e = equal_order o e
+neither_null false false o e = (equal_order o e, (refl, refl))
 
-pub equal_values : (a b : Value) → compare comparison.Equal a b ≡ Some true → is_eq (value_cmp a b) ≡ true
+-- the values are equal, and neither is NULL
+pub equal_values : (a b : Value) → compare comparison.Equal a b ≡ Some true → (is_eq (value_cmp a b) ≡ true) × ((is_null a ≡ false) × (is_null b ≡ false))
 equal_values a b e = neither_null (is_null a) (is_null b) (value_cmp a b) e
 
 turned_round : (o : Ordering) → is_eq o ≡ is_eq (ordering_reverse o)

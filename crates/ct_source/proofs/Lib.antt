@@ -1,2 +1,3 @@
 pub mod OneColumn
 pub mod PairsByKey
+pub mod Sorted

@@ -26,7 +26,7 @@ filter_none : {X : Type 0} (test : X → Bool) (xs : List X) → AllByRecursion 
 filter_none test [] all = refl
 filter_none test (x ∷ xs) all = rw all.0 (filter_none test xs all.1)
 
-filter_same : {X : Type 0} (p q : X → Bool) (xs : List X) → AllByRecursion (λ x. p x ≡ q x) xs → filter p xs ≡ filter q xs
+pub filter_same : {X : Type 0} (p q : X → Bool) (xs : List X) → AllByRecursion (λ x. p x ≡ q x) xs → filter p xs ≡ filter q xs
 filter_same p q [] all = refl
 filter_same p q (x ∷ xs) all = rw (all.0, filter_same p q xs all.1) refl
 

@@ -2,8 +2,11 @@
 #![tactic(auto)]
 
 mod cells;
+mod index;
+mod lending;
 mod source;
 mod stored;
 
+pub use index::Index;
 pub use source::Source;
 pub use stored::Stored;

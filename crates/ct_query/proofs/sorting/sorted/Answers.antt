@@ -2,7 +2,8 @@ use Rattle.std.proofs.Common.{rules}
 use Rattle.ct_query.specs.Answer.{comes_before}
 use Rattle.ct_query.specs.Sorting.{keys_cmp}
 use Rattle.ct_query.proofs.InOrder.{only_order}
-use Rattle.ct_query.proofs.KeyOrder.{comes_before_order, compares_by}
+use Rattle.ct_source.proofs.Sorted.{compares_by}
+use Rattle.ct_query.proofs.KeyOrder.{comes_before_order}
 use Rattle.ct_query.proofs.sorting.sorted.Goals as goal
 
 pub returns : goal.returns

@@ -1,9 +1,0 @@
-use Rattle.std.proofs.Common.{◌≡◌, take, Ok}
-use Rattle.ct_scan.specs.Lists.{all_of}
-use Rattle.ct_source.specs.Rows.{lent}
-use Rattle.ct_source.specs.Sources.{source_rows}
-use Rattle.ct_query.specs.Steps.{rows_of_left}
-use Rattle.ct_query.proofs.joins.left_outer.Given as goal
-
-abbrev pub invariant-loop-left : goal.invariant-loop-left
-invariant-loop-left g l = all_of (rows_of_left (record { env = l.env; versions = g.L.Versions.row_of l.versions }) l.plan (source_rows l.rights)) (lent (take l.left-index l.lefts)) ≡ Ok l.all.items
