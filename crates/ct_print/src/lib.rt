@@ -8,7 +8,7 @@ mod reply;
 mod transcript;
 mod value;
 
-pub use journal::{print_block, print_run};
-pub use laws::transcripts_go_on;
+pub use journal::print_block;
+pub use laws::{transcripts_go_on, transcripts_grow};
 pub use transcript::Transcript;
 pub use value::print_value;

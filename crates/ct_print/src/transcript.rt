@@ -1,5 +1,3 @@
-ghost use Rattle.std.specs.Prelude.{◌≡◌, OnOk};
-
 use crate::journal::add_block;
 use ct_machine::wants_memory;
 use ct_types::{Journaled, Memory};
@@ -7,12 +5,15 @@ use std::alloc::Global;
 use std::marker::Model;
 
 /// The transcript of a run while it grows, in UTF-8: the blocks of the entries in order, with places from 1 on, and the
-/// line `#phase` between two phases. It keeps what is printed, and nothing of what was asked.
+/// line `#phase` between two phases. It keeps what is printed, and nothing of what was asked. That it is the text of the
+/// run's journals is a law ([`crate::transcripts_grow`]).
 ///
 /// The form is this project's own.
 #[derive(Drop)]
 pub struct Transcript {
     text: String,
+    /// Where a block is printed before it is added.
+    block: String,
     /// Whether a phase has begun.
     begun: bool,
     /// The place of the next block.
@@ -31,7 +32,7 @@ impl Model for Transcript {
 }
 
 impl Transcript {
-    ghost use Rattle.std.specs.Prelude.{◌≡◌, OnOk};
+    ghost use Rattle.std.specs.Prelude.{◌≡◌, OnErr, OnOk};
     ghost use Rattle.ct_print.specs.Growing.{nothing, with_block, with_phase};
 
     /// The transcript of nothing. It takes no memory.
@@ -40,15 +41,18 @@ impl Transcript {
     {
         Transcript {
             text: String::new(alloc),
+            block: String::new(alloc),
             begun: false,
             next: 1,
             wanted: false,
         }
     }
 
-    /// Begins a phase: with the line `#phase`, but for the first. Only memory may be wanting.
+    /// Begins a phase: with the line `#phase`, but for the first. Only memory may be wanting, which leaves the transcript as
+    /// it was.
     pub fn phase(&mut self) -> Result<(), Memory>
-        ensures { OnOk result (self.new ≡ with_phase self.old) }
+        ensures ok { OnOk result (self.new ≡ with_phase self.old) }
+        ensures err { OnErr result (self.new ≡ self.old) }
     {
         if self.begun {
             self.text.push_str("#phase\n")?;
@@ -57,14 +61,18 @@ impl Transcript {
         Ok(())
     }
 
-    /// Adds the block of an entry. Only memory may be wanting; 2^64 blocks are more than any memory holds.
+    /// Adds the block of an entry. Only memory may be wanting, which leaves the transcript as it was; 2^64 blocks are more
+    /// than any memory holds.
     pub fn block(&mut self, entry: &Journaled) -> Result<(), Memory>
-        ensures { OnOk result (self.new ≡ with_block self.old entry.now) }
+        ensures ok { OnOk result (self.new ≡ with_block self.old entry.now) }
+        ensures err { OnErr result (self.new ≡ self.old) }
     {
         let Some(next) = self.next.checked_add(1) else {
             return Err(Memory);
         };
-        add_block(&mut self.text, self.next, entry)?;
+        self.block.clear();
+        add_block(&mut self.block, self.next, entry)?;
+        self.text.push_str(self.block.as_str())?;
         self.next = next;
         self.wanted = self.wanted || wants_memory(&entry.reply);
         Ok(())
