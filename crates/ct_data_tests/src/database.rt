@@ -1,92 +1,14 @@
+use crate::hold::let_go;
 use ct_applies::applies;
 use ct_model::{Db, apply, find_table, has_row, key_of_row, net};
 use ct_types::{
     Act, Bin, ColType, Column, Entry, Keep, Key, List, Memory, Min, NetRow, Op, Row, Schema, Text,
-    Value, Write,
+    Value, Write, push,
 };
 use std::alloc::Global;
-use std::process::Abort;
 use std::test::Fail;
 
-/// A write of the row with id 1, in a commit of its own.
-#[derive(Clone, Copy)]
-struct Step {
-    op: Op,
-    mask: u64,
-    context: bool,
-}
-
-const INSERT: Step = Step {
-    op: Op::Insert,
-    mask: 0,
-    context: false,
-};
-
-const DELETE: Step = Step {
-    op: Op::Delete,
-    mask: 0,
-    context: false,
-};
-
-const SET_A: Step = Step {
-    op: Op::Update,
-    mask: 2,
-    context: false,
-};
-
-const SET_B: Step = Step {
-    op: Op::Update,
-    mask: 4,
-    context: false,
-};
-
-const SET_BOTH: Step = Step {
-    op: Op::Update,
-    mask: 6,
-    context: false,
-};
-
-const TAGGED: Step = Step {
-    op: Op::Update,
-    mask: 2,
-    context: true,
-};
-
-/// What a net row shows beside its key.
-#[derive(Clone, Copy, Debug, PartialEq, Eq)]
-struct Shown {
-    version: u64,
-    creation: Option<u64>,
-    op: Op,
-    mask: Option<u64>,
-    context: bool,
-}
-
-const fn told(
-    version: u64,
-    creation: Option<u64>,
-    op: Op,
-    mask: Option<u64>,
-    context: bool,
-) -> Option<Shown> {
-    Some(Shown {
-        version,
-        creation,
-        op,
-        mask,
-        context,
-    })
-}
-
-fn show(row: &NetRow) -> Shown {
-    Shown {
-        version: row.version,
-        creation: row.creation,
-        op: row.op,
-        mask: row.mask,
-        context: row.context.is_some(),
-    }
-}
+// ---- acts
 
 fn column(alloc: Global, name: &str, kind: ColType, nullable: bool) -> Result<Column, Memory> {
     Ok(Column {
@@ -96,71 +18,93 @@ fn column(alloc: Global, name: &str, kind: ColType, nullable: bool) -> Result<Co
     })
 }
 
-fn schema(alloc: Global) -> Result<Schema, Memory> {
+fn columns(alloc: Global) -> Result<List<Column>, Memory> {
     let mut columns = List::new(alloc);
-    columns.push(column(alloc, "id", ColType::Int, false)?)?;
-    columns.push(column(alloc, "a", ColType::Int, true)?)?;
-    columns.push(column(alloc, "b", ColType::NVarChar(20), true)?)?;
+    push(&mut columns, column(alloc, "id", ColType::Int, false)?)?;
+    push(&mut columns, column(alloc, "a", ColType::Int, true)?)?;
+    push(
+        &mut columns,
+        column(alloc, "b", ColType::NVarChar(20), true)?,
+    )?;
+    Ok(columns)
+}
+
+/// `t (id INT PRIMARY KEY, a INT, b NVARCHAR(20))`
+fn schema(alloc: Global) -> Result<Schema, Memory> {
+    let columns = columns(alloc)?;
+    let name = Text::of(alloc, "t")?;
     let mut key = List::new(alloc);
     key.push(1)?;
     Ok(Schema {
         id: 1,
-        name: Text::of(alloc, "t")?,
+        name,
         columns,
         key,
     })
 }
 
-fn key(alloc: Global, id: Value) -> Result<Key, Memory> {
+fn define(alloc: Global) -> Result<Act, Memory> {
+    Ok(Act::Define(schema(alloc)?))
+}
+
+fn number(n: Option<i64>) -> Value {
+    match n {
+        Some(n) => Value::Int(n),
+        None => Value::Null,
+    }
+}
+
+fn key(alloc: Global, id: Option<i64>) -> Result<Key, Memory> {
     let mut values = List::new(alloc);
-    values.push(id)?;
+    push(&mut values, number(id))?;
     Ok(Key(values))
 }
 
-fn row(alloc: Global, id: Value) -> Result<Row, Memory> {
+/// The row of an id, 5 and NULL.
+fn row(alloc: Global, id: Option<i64>) -> Result<Row, Memory> {
     let mut values = List::new(alloc);
-    values.push(id)?;
-    values.push(Value::Int(5))?;
-    values.push(Value::Null)?;
+    push(&mut values, number(id))?;
+    push(&mut values, Value::Int(5))?;
+    push(&mut values, Value::Null)?;
     Ok(Row(values))
-}
-
-fn row_after(alloc: Global, step: Step) -> Result<Option<Row>, Memory> {
-    match step.op {
-        Op::Delete => Ok(None),
-        Op::Insert | Op::Update => Ok(Some(row(alloc, Value::Int(1))?)),
-    }
-}
-
-fn context(alloc: Global, step: Step) -> Result<Option<Bin>, Memory> {
-    if step.context {
-        Ok(Some(Bin::of(alloc, &[0xAB])?))
-    } else {
-        Ok(None)
-    }
 }
 
 fn commit(alloc: Global, write: Write) -> Result<Act, Memory> {
     let mut writes = List::new(alloc);
-    writes.push(write)?;
+    push(&mut writes, write)?;
     Ok(Act::Commit(writes))
 }
 
-fn step_act(alloc: Global, step: Step) -> Result<Act, Memory> {
-    let write = Write {
+fn write_of(op: Op, key: Key, row: Row, mask: u64, context: Option<Bin>) -> Write {
+    Write {
         table: 1,
-        op: step.op,
-        key: key(alloc, Value::Int(1))?,
-        row: row_after(alloc, step)?,
+        op,
+        key,
+        row: Some(row),
         tracked: true,
-        mask: step.mask,
-        context: context(alloc, step)?,
-    };
-    commit(alloc, write)
+        mask,
+        context,
+    }
 }
 
-/// Applies an act as the next entry, once `applies` has told that it fits.
-fn enter(rt: &impl Abort, alloc: Global, db: &mut Db, draws: bool, act: Act) -> Result<(), Memory> {
+/// The commit of an insert of a row with this id.
+fn insert(alloc: Global, id: Option<i64>) -> Result<Act, Memory> {
+    let key = key(alloc, id)?;
+    let row = row(alloc, id)?;
+    commit(alloc, write_of(Op::Insert, key, row, 0, None))
+}
+
+/// The commit of an update of the row with id 1.
+fn update(alloc: Global, mask: u64, context: Option<Bin>) -> Result<Act, Memory> {
+    let key = key(alloc, Some(1))?;
+    let row = row(alloc, Some(1))?;
+    commit(alloc, write_of(Op::Update, key, row, mask, context))
+}
+
+// ---- databases
+
+/// The database after an act as its next entry, which has to apply.
+fn entered(alloc: Global, mut db: Db, draws: bool, act: Act) -> Result<Db, Memory> {
     let entry = Entry {
         version: db.version.saturating_add(u64::from(draws)),
         draws,
@@ -168,141 +112,153 @@ fn enter(rt: &impl Abort, alloc: Global, db: &mut Db, draws: bool, act: Act) -> 
         time: db.time,
         act,
     };
-    let fits = applies(alloc, db, &entry)?;
-    assert!(rt; fits);
-    apply(alloc, db, &entry)
+    let fits = applies(alloc, &db, &entry);
+    let done = apply(alloc, &mut db, &entry);
+    let_go(entry);
+    if matches!(fits, Ok(true)) && done.is_ok() {
+        return Ok(db);
+    }
+    let_go(db);
+    Err(Memory)
 }
 
-/// The database with one table, which is tracked with its columns from version 1 on.
-fn base(rt: &impl Abort, alloc: Global) -> Result<Db, Memory> {
-    let mut db = Db::empty(alloc)?;
+/// The database after an act that was made.
+fn after(alloc: Global, db: Db, draws: bool, act: Result<Act, Memory>) -> Result<Db, Memory> {
+    match act {
+        Ok(act) => entered(alloc, db, draws, act),
+        Err(Memory) => {
+            let_go(db);
+            Err(Memory)
+        }
+    }
+}
+
+/// The database with one table.
+fn with_table(alloc: Global) -> Result<Db, Memory> {
     let keep = Keep {
         retention: 172_800,
         auto: true,
     };
-    enter(rt, alloc, &mut db, false, Act::Database(Some(keep)))?;
-    enter(rt, alloc, &mut db, false, Act::Define(schema(alloc)?))?;
-    enter(
-        rt,
+    let db = entered(alloc, Db::empty(alloc)?, false, Act::Database(Some(keep)))?;
+    after(alloc, db, false, define(alloc))
+}
+
+/// The database with one table, which is tracked with its columns from version 1 on.
+fn with_tracking(alloc: Global) -> Result<Db, Memory> {
+    entered(
         alloc,
-        &mut db,
+        with_table(alloc)?,
         true,
         Act::Enable {
             table: 1,
             masks: true,
         },
-    )?;
-    Ok(db)
+    )
 }
 
-fn play(rt: &impl Abort, alloc: Global, steps: &[Step]) -> Result<Db, Memory> {
-    let mut db = base(rt, alloc)?;
-    for step in steps {
-        enter(rt, alloc, &mut db, true, step_act(alloc, *step)?)?;
+/// The same, and in version 2 the row with id 1.
+fn with_row(alloc: Global) -> Result<Db, Memory> {
+    after(alloc, with_tracking(alloc)?, true, insert(alloc, Some(1)))
+}
+
+fn tagged(alloc: Global) -> Result<Act, Memory> {
+    let context = Bin::of(alloc, &[0xAB])?;
+    update(alloc, 2, Some(context))
+}
+
+/// The same, and in version 3 an update with a context.
+fn with_context(alloc: Global) -> Result<Db, Memory> {
+    after(alloc, with_row(alloc)?, true, tagged(alloc))
+}
+
+/// The same, and in version 4 an update without one.
+fn without_context(alloc: Global) -> Result<Db, Memory> {
+    after(alloc, with_context(alloc)?, true, update(alloc, 4, None))
+}
+
+// ---- net changes
+
+/// What a net row shows beside its key: version, creation, operation, mask, and whether there is a context.
+type Shown = (u64, Option<u64>, Op, Option<u64>, bool);
+
+fn show(row: &NetRow) -> Shown {
+    (
+        row.version,
+        row.creation,
+        row.op,
+        row.mask,
+        row.context.is_some(),
+    )
+}
+
+/// The net row since version 2, which has to be the only one.
+fn net_row(alloc: Global, db: Result<Db, Memory>) -> Result<Option<Shown>, Memory> {
+    let db = db?;
+    let rows = net(alloc, &db, 1, Some(2));
+    let_go(db);
+    match rows?.as_slice() {
+        [row] => Ok(Some(show(row))),
+        _ => Ok(None),
     }
-    Ok(db)
 }
 
+/// A net row has the context of the last change alone. No statement gives a context yet; other net changes are cases of `ct_cases`.
 #[test]
-fn net_changes(rt: HostRuntime) -> Result<(), Fail> {
+fn net_changes_with_contexts(rt: HostRuntime) -> Result<(), Fail> {
     let alloc = rt.alloc();
-    let cases = [
-        (
-            [INSERT, SET_A].as_slice(),
-            Some(0),
-            told(3, Some(2), Op::Insert, None, false),
-        ),
-        (
-            [INSERT, SET_A].as_slice(),
-            None,
-            told(3, Some(2), Op::Insert, None, false),
-        ),
-        (
-            [INSERT, SET_A].as_slice(),
-            Some(2),
-            told(3, None, Op::Update, Some(2), false),
-        ),
-        ([INSERT, SET_A].as_slice(), Some(3), None),
-        (
-            [INSERT, DELETE].as_slice(),
-            Some(1),
-            told(3, Some(2), Op::Delete, None, false),
-        ),
-        (
-            [INSERT, DELETE, INSERT].as_slice(),
-            Some(2),
-            told(4, Some(4), Op::Insert, None, false),
-        ),
-        (
-            [INSERT, SET_BOTH, SET_A].as_slice(),
-            Some(2),
-            told(4, None, Op::Update, None, false),
-        ),
-        (
-            [INSERT, SET_BOTH, SET_A].as_slice(),
-            Some(3),
-            told(4, None, Op::Update, Some(2), false),
-        ),
-        (
-            [INSERT, TAGGED].as_slice(),
-            Some(2),
-            told(3, None, Op::Update, Some(2), true),
-        ),
-        (
-            [INSERT, TAGGED, SET_B].as_slice(),
-            Some(2),
-            told(4, None, Op::Update, Some(6), false),
-        ),
-    ];
-    for (steps, last, want) in cases {
-        let db = play(&rt, alloc, steps)?;
-        let rows = net(alloc, &db, 1, last)?;
-        assert_eq!(rt; rows.as_slice().first().map(show), want);
-        assert!(rt; rows.as_slice().len() <= 1);
-    }
+    let tagged = net_row(alloc, with_context(alloc))?;
+    assert_eq!(rt; tagged, Some((3, None, Op::Update, Some(2), true)));
+    let untagged = net_row(alloc, without_context(alloc))?;
+    assert_eq!(rt; untagged, Some((4, None, Op::Update, Some(6), false)));
     Ok(())
 }
 
-/// An insert of a row with this id, as an entry of its own.
-fn insert(alloc: Global, version: u64, xdes: u64, id: Option<i64>) -> Result<Entry, Memory> {
-    let value = id.map_or(Value::Null, Value::Int);
-    let again = id.map_or(Value::Null, Value::Int);
-    let write = Write {
-        table: 1,
-        op: Op::Insert,
-        key: key(alloc, value)?,
-        row: Some(row(alloc, again)?),
-        tracked: true,
-        mask: 0,
-        context: None,
-    };
-    Ok(Entry {
-        version,
-        draws: true,
-        xdes,
+// ---- entries that apply
+
+/// Whether an act of such an entry applies.
+fn is_next(alloc: Global, db: &Db, numbers: (u64, bool, u64), act: Act) -> Result<bool, Memory> {
+    let entry = Entry {
+        version: numbers.0,
+        draws: numbers.1,
+        xdes: numbers.2,
         time: 0,
-        act: commit(alloc, write)?,
-    })
+        act,
+    };
+    let told = applies(alloc, db, &entry);
+    let_go(entry);
+    told
 }
 
-#[test]
-fn entries_that_apply(rt: HostRuntime) -> Result<(), Fail> {
-    let alloc = rt.alloc();
-    let db = play(&rt, alloc, &[INSERT])?;
-    for (version, xdes, id, want) in [
-        (3, 5, Some(2), true),
-        (3, 5, Some(1), false),
-        (2, 5, Some(2), false),
-        (4, 5, Some(2), false),
-        (3, 4, Some(2), false),
-        (3, 0, Some(2), false),
-        (3, 5, None, false),
-        (3, 5, Some(2_147_483_648), false),
-    ] {
-        let entry = insert(alloc, version, xdes, id)?;
-        assert_eq!(rt; applies(alloc, &db, &entry)?, want, "{version} {xdes}");
+/// Version, transaction number and id of an inserted row, and whether the entry applies.
+const INSERTS: [(u64, u64, Option<i64>, bool); 8] = [
+    (3, 5, Some(2), true),
+    (3, 5, Some(1), false),
+    (2, 5, Some(2), false),
+    (4, 5, Some(2), false),
+    (3, 4, Some(2), false),
+    (3, 0, Some(2), false),
+    (3, 5, None, false),
+    (3, 5, Some(2_147_483_648), false),
+];
+
+fn are_told(alloc: Global, db: &Db) -> Result<bool, Memory> {
+    let mut holds = true;
+    for (version, xdes, id, wanted) in INSERTS {
+        let act = insert(alloc, id)?;
+        let told = is_next(alloc, db, (version, true, xdes), act)?;
+        holds = holds && told == wanted;
     }
-    Ok(())
+    Ok(holds)
+}
+
+/// An act: raises the minimum, truncates or disables a table, switches tracking off, or defines the table once more.
+#[derive(Clone, Copy)]
+enum What {
+    Raise(u64),
+    Truncate(u32),
+    Disable,
+    Off,
+    Define,
 }
 
 fn raise(alloc: Global, min: u64) -> Result<Act, Memory> {
@@ -311,45 +267,66 @@ fn raise(alloc: Global, min: u64) -> Result<Act, Memory> {
     Ok(Act::Raise(minima))
 }
 
-#[test]
-fn acts_that_apply(rt: HostRuntime) -> Result<(), Fail> {
-    let alloc = rt.alloc();
-    let db = play(&rt, alloc, &[INSERT])?;
-    for (act, draws, xdes, want) in [
-        (raise(alloc, 2)?, false, 0, true),
-        (raise(alloc, 1)?, false, 0, false),
-        (raise(alloc, 3)?, false, 0, false),
-        (Act::Truncate(1), true, 5, true),
-        (Act::Truncate(2), true, 5, false),
-        (Act::Disable(1), false, 5, true),
-        (Act::Database(None), false, 5, false),
-        (Act::Define(schema(alloc)?), false, 5, false),
-    ] {
-        let version = if draws { 3 } else { 2 };
-        let entry = Entry {
-            version,
-            draws,
-            xdes,
-            time: 0,
-            act,
-        };
-        assert_eq!(rt; applies(alloc, &db, &entry)?, want, "{version} {xdes}");
+fn act_of(alloc: Global, what: What) -> Result<Act, Memory> {
+    match what {
+        What::Raise(min) => raise(alloc, min),
+        What::Truncate(table) => Ok(Act::Truncate(table)),
+        What::Disable => Ok(Act::Disable(1)),
+        What::Off => Ok(Act::Database(None)),
+        What::Define => define(alloc),
     }
-    Ok(())
+}
+
+/// An act, whether it draws a version, its transaction number, and whether it applies.
+const ACTS: [(What, bool, u64, bool); 8] = [
+    (What::Raise(2), false, 0, true),
+    (What::Raise(1), false, 0, false),
+    (What::Raise(3), false, 0, false),
+    (What::Truncate(1), true, 5, true),
+    (What::Truncate(2), true, 5, false),
+    (What::Disable, false, 5, true),
+    (What::Off, false, 5, false),
+    (What::Define, false, 5, false),
+];
+
+fn acts_are_told(alloc: Global, db: &Db) -> Result<bool, Memory> {
+    let mut holds = true;
+    for (what, draws, xdes, wanted) in ACTS {
+        let act = act_of(alloc, what)?;
+        let version = if draws { 3 } else { 2 };
+        let told = is_next(alloc, db, (version, draws, xdes), act)?;
+        holds = holds && told == wanted;
+    }
+    Ok(holds)
+}
+
+/// Whether the table has the row with id 1, and none with the key of a row with id 7.
+fn rows_are_found(alloc: Global, db: &Db) -> Result<bool, Memory> {
+    let Some(table) = find_table(db.tables.as_slice(), 1) else {
+        return Ok(false);
+    };
+    let row = row(alloc, Some(7))?;
+    let made = key_of_row(alloc, &table.schema, &row);
+    let_go(row);
+    let one = key(alloc, Some(1))?;
+    let rows = table.rows.as_slice();
+    let has_one = has_row(&table.schema, rows, &one);
+    let_go(one);
+    let made = made?;
+    let is_seven = matches!(made.0.as_slice(), [Value::Int(7)]);
+    Ok(is_seven && has_one && !has_row(&table.schema, rows, &made))
 }
 
 #[test]
-fn rows_by_key(rt: HostRuntime) -> Result<(), Fail> {
+fn entries_apply_and_rows_are_found(rt: HostRuntime) -> Result<(), Fail> {
     let alloc = rt.alloc();
-    let db = play(&rt, alloc, &[INSERT])?;
-    let made = key_of_row(alloc, &schema(alloc)?, &row(alloc, Value::Int(7))?)?;
-    assert_eq!(rt; made, key(alloc, Value::Int(7))?);
-    let table = find_table(db.tables.as_slice(), 1);
-    assert!(rt; table.is_some());
-    if let Some(table) = table {
-        let rows = table.rows.as_slice();
-        assert!(rt; has_row(&table.schema, rows, &key(alloc, Value::Int(1))?));
-        assert!(rt; !has_row(&table.schema, rows, &made));
-    }
+    let db = with_row(alloc)?;
+    let inserts = are_told(alloc, &db);
+    let acts = acts_are_told(alloc, &db);
+    let rows = rows_are_found(alloc, &db);
+    let_go(db);
+    assert_eq!(rt; inserts, Ok(true));
+    assert_eq!(rt; acts, Ok(true));
+    assert_eq!(rt; rows, Ok(true));
     Ok(())
 }

@@ -1,11 +1,14 @@
-//! Tests of data: the plain database, shared trees and row versions. A crate with tests is proved twice, so they stand above all others.
+//! Tests of what no script shows: entries on databases made by hand, shared trees, row versions, and forms of queries and writes that do not run yet. What a
+//! script shows is a case of `ct_cases`. A crate with tests is proved twice, and each test function is proved, so they stand above all others and are few.
 #![tactic(auto)]
 
 #[cfg(test)]
 mod database;
 #[cfg(test)]
-mod net_rows;
+mod hold;
 #[cfg(test)]
 mod row_versions;
 #[cfg(test)]
 mod trees;
+#[cfg(test)]
+mod values;

@@ -1,5 +1,5 @@
 use ct_lexer::TokenKind::{Bracketed, Bytes, Name, Number, Sign, Text, Variable};
-use ct_lexer::{LexError, TokenKind, tokens};
+use ct_lexer::{TokenKind, tokens};
 use std::test::Fail;
 
 /// Each text with its tokens: kind, first byte, end.
@@ -61,20 +61,6 @@ const CUT: [(&str, &[(TokenKind, u32, u32)]); 8] = [
     ),
 ];
 
-/// Each text with the first place where no token begins.
-const WRONG: [(&str, u32); 10] = [
-    ("SELECT 'a", 7),
-    ("SELECT 0x1", 7),
-    ("a N'b''", 2),
-    ("[]", 0),
-    ("x [a", 2),
-    ("[a\tb]", 0),
-    ("a !", 2),
-    ("a é", 2),
-    ("\"a\"", 0),
-    ("1 @1", 2),
-];
-
 #[test]
 fn cuts_texts(rt: HostRuntime) -> Result<(), Fail> {
     for (text, wanted) in CUT {
@@ -86,31 +72,6 @@ fn cuts_texts(rt: HostRuntime) -> Result<(), Fail> {
         for (token, want) in found.as_slice().iter().zip(wanted) {
             assert_eq!(rt; (token.kind, token.from, token.to), *want, "{text}");
         }
-    }
-    Ok(())
-}
-
-#[test]
-fn finds_faults(rt: HostRuntime) -> Result<(), Fail> {
-    for (text, at) in WRONG {
-        assert!(rt; text.len() < 100);
-        assert!(rt;
-            matches!(tokens(rt.alloc(), text), Err(LexError::Syntax(place)) if place == at),
-            "{text}"
-        );
-    }
-    Ok(())
-}
-
-#[test]
-fn bounds_names(rt: HostRuntime) -> Result<(), Fail> {
-    for (len, fits) in [(128, true), (129, false)] {
-        let mut name = String::new(rt.alloc());
-        for _ in 0..len {
-            name.push('a')?;
-        }
-        assert!(rt; name.len() < 200);
-        assert_eq!(rt; tokens(rt.alloc(), &name).is_ok(), fits);
     }
     Ok(())
 }

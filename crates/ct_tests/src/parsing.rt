@@ -134,44 +134,8 @@ const TREES: &[(&str, &str)] = &[
     ),
 ];
 
-/// Texts that are no statements, and where each faults.
-const FAULTS: &[(&str, u32)] = &[
-    ("", 0),
-    ("SELECT", 6),
-    ("SELECT 'a", 7),
-    ("SELECT 0x1", 7),
-    ("SELECT ((((1 'a", 13),
-    ("SELECT 1 1", 9),
-    ("SELEC 1", 0),
-    ("SELECT 1;;", 9),
-    ("INSERT t VALUES (1,,2)", 19),
-    ("INSERT t VALUES (1", 18),
-    ("SELECT 1 AS from", 12),
-    ("SELECT 1 [from] x", 16),
-    ("SELECT [null].[select], null.a", 28),
-    ("SELECT a.", 9),
-    ("SELECT f(1)", 8),
-    ("SELECT ISNULL(1)", 15),
-    ("SELECT a = b = c", 13),
-    ("SELECT t.* x", 11),
-    ("SELECT (1", 9),
-    ("SELECT a FROM t CROSS APPLY u", 28),
-    ("SELECT * FROM CHANGETABLE(CHANGES t, 0)", 39),
-    ("SET LOCK_TIMEOUT 5", 17),
-    ("SET LOCK_TIMEOUT 00", 17),
-    ("BEGIN", 5),
-    (
-        "ALTER DATABASE d SET CHANGE_TRACKING (AUTO_CLEANUP = ON, AUTO_CLEANUP = ON)",
-        57,
-    ),
-    (
-        "ALTER DATABASE d SET CHANGE_TRACKING (AUTO_CLEANUP = ON, CHANGE_RETENTION = 1 DAYS, x",
-        82,
-    ),
-    ("CREATE TABLE t (a INT, PRIMARY KEY (a), b INT)", 38),
-];
-
-fn read(alloc: Global, text: &str) -> Result<Stmt, Refusal> {
+/// The tree of a text, or its refusal.
+pub(crate) fn read(alloc: Global, text: &str) -> Result<Stmt, Refusal> {
     if text.len() > 65_536 {
         return Err(Refusal::Memory);
     }
@@ -190,17 +154,6 @@ fn reads_each_rule(rt: HostRuntime) -> Result<(), Fail> {
         };
         let shown = format!(in rt.alloc(); "{found:?}")?;
         assert_eq!(rt; shown.as_str(), *tree, "{text}");
-    }
-    Ok(())
-}
-
-#[test]
-fn faults_at_the_first_token(rt: HostRuntime) -> Result<(), Fail> {
-    for (text, at) in FAULTS {
-        assert!(rt;
-            matches!(read(rt.alloc(), text), Err(Refusal::Syntax { at: found }) if found == *at),
-            "{text}"
-        );
     }
     Ok(())
 }
@@ -226,35 +179,6 @@ fn goes_on_to_the_end(rt: HostRuntime) -> Result<(), Fail> {
                 "{front}"
             );
         }
-    }
-    Ok(())
-}
-
-/// `SELECT`, so many times `open`, `1` and as many times `close`.
-fn nested(alloc: Global, open: &str, close: &str, depth: usize) -> Result<String, Fail> {
-    let mut text = String::from_str(alloc, "SELECT ")?;
-    for _ in 0..depth {
-        text.push_str(open)?;
-    }
-    text.push('1')?;
-    for _ in 0..depth {
-        text.push_str(close)?;
-    }
-    Ok(text)
-}
-
-#[test]
-fn goes_64_levels_deep(rt: HostRuntime) -> Result<(), Fail> {
-    for (open, close) in [("(", ")"), ("NOT ", ""), ("- ", ""), ("OBJECT_ID(", ")")] {
-        assert!(rt;
-            read(rt.alloc(), &nested(rt.alloc(), open, close, 64)?).is_ok(),
-            "{open}"
-        );
-        let deeper = read(rt.alloc(), &nested(rt.alloc(), open, close, 65)?);
-        assert!(rt;
-            matches!(deeper, Err(Refusal::TooMany { limit: 64 })),
-            "{open}"
-        );
     }
     Ok(())
 }
