@@ -1,5 +1,7 @@
 pub mod Bytes
 pub mod Causes
+pub mod Disk
 pub mod MemSink
 pub mod MemSource
+pub mod Plain
 pub mod Stream

@@ -1,0 +1,11 @@
+pub mod Bare
+pub mod Combined
+pub mod EntryLaws
+pub mod Families
+pub mod Lists
+pub mod Numbers
+pub mod Ones
+pub mod PieceLaws
+pub mod Turns
+pub mod ValueLaws
+pub mod WriteLaws

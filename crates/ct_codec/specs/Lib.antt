@@ -1,0 +1,4 @@
+pub mod Codes
+pub mod EntryReaders
+pub mod Readers
+pub mod Spellings

@@ -1,0 +1,4 @@
+pub mod Crashes
+pub mod Passing
+pub mod Placed
+pub mod Recorded
