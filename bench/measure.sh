@@ -1,5 +1,5 @@
 #!/bin/sh
-# measure.sh CRATES MAIN: proves and runs the program text MAIN over this repository's crates CRATES, in a folder of its own.
+# measure.sh CRATES MAIN [RUNS]: proves and runs the program text MAIN over this repository's crates CRATES, in a folder of its own, so many times (once).
 # A measurement is no test: the gate does not run it.
 set -e
 top=$(cd "$(dirname "$0")/.." && pwd)
@@ -14,3 +14,8 @@ if ! RT_SECONDS=600 rt run 2>"$work/log"; then
   tail -20 "$work/log"
   exit 1
 fi
+run=1
+while [ $run -lt "${3:-1}" ]; do
+  out/ct_bench
+  run=$((run + 1))
+done

@@ -106,6 +106,18 @@ for name, query, bar in QUERIES:
     small, large = (query_micros("query", rows, query, 20_000) for rows in (2_000, 20_000))
     print(f"{name}: {small:.1f} us at 2,000 rows, {large:.1f} at 20,000: {large / small:.2f} times (bar {bar})")
 
+def whole_join_millis(rows, times):
+    """The milliseconds of a join of a table of so many rows with the changes of all of them, from the table's side."""
+    before = inserts(rows)
+    query = "SELECT t.a, ct.id FROM t LEFT OUTER JOIN CHANGETABLE(CHANGES t, 1) AS ct ON t.id = ct.id WHERE t.a < 0"
+    without = seconds(CT, ct_file("join", before))
+    whole = seconds(CT, ct_file("join", before + [query] * times))
+    return max(whole - without, 1e-9) * 1e3 / times
+
+
+few, many = whole_join_millis(2_000, 20), whole_join_millis(20_000, 5)
+print(f"LEFT JOIN of a table with the changes of all its rows: {few:.1f} ms at 2,000 rows, {many:.1f} at 20,000: {many / few:.1f} times")
+
 empty = resident(ct_file("ct", []))
 full = resident(ct_file("ct", inserts(20_000)))
 print(f"memory: {(full - empty) / 20_000:.0f} bytes a row beyond the empty run's {empty / 2 ** 20:.1f} MiB (bar 1,500, goal 700)")

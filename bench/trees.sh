@@ -1,10 +1,10 @@
 #!/bin/sh
 # What the calls of a shared tree and of row versions take, at 20,000 and at 1,000,000 scattered keys of one number, in
-# nanoseconds a call, beside std's BTreeMap, and the ratios that are of interest, all in one run. A quarter as many keys
-# again are put, their making included.
+# nanoseconds a call, beside std's BTreeMap, and the ratios that are of interest. A quarter as many keys again are put, their
+# making included. The program runs nine times, and each figure is the median of its nine.
 set -e
 main=$(mktemp)
-trap 'rm -f "$main"' EXIT
+trap 'rm -f "$main" "$main.out"' EXIT
 cat >"$main" <<'END'
 //! Times the calls of a shared tree and of row versions.
 #![tactic(auto)]
@@ -150,16 +150,27 @@ fn main(rt: HostRuntime) -> anyhow::Result<()> {
     Ok(())
 }
 END
-"$(dirname "$0")/measure.sh" "ct_types ct_ptree ct_rows anyhow" "$main" |
-  awk '
-    $1 == "tree" {
-      get[$2] = $3 / $2; share[$2] = $4 / 1000; put[$2] = 4 * $5 / $2; map[$2] = 4 * $6 / $2
-      printf "%7d keys: get %.0f, share %.0f, put %.0f, BTreeMap insert %.0f ns\n", $2, get[$2], share[$2], put[$2], map[$2]
-    }
-    $1 == "insert" { insert = 4 * $3 / $2; printf "%7d keys: insert %.0f ns\n", $2, insert }
-    $1 == "rows" { printf "%7d rows: at %.0f, walk %.0f ns a row, an at is %.1f times a walk\n", $2, $3 / $2, $4 / $2, $3 / $4 }
-    END {
-      few = 20000; many = 1000000
-      printf "at 20,000: insert %.1f times put, put %.1f times BTreeMap insert\n", insert / put[few], put[few] / map[few]
-      printf "at 1,000,000 beside 20,000: put %.1f times, get %.1f times, share %.1f times, BTreeMap insert %.1f times\n", put[many] / put[few], get[many] / get[few], share[many] / share[few], map[many] / map[few]
-    }'
+"$(dirname "$0")/measure.sh" "ct_types ct_ptree ct_rows anyhow" "$main" 9 >"$main.out"
+python3 - "$main.out" <<'PYTHON'
+import collections, statistics, sys
+
+told = collections.defaultdict(list)
+with open(sys.argv[1]) as lines:
+    for what, size, *rest in map(str.split, lines):
+        n, rest = int(size), [int(it) for it in rest if it.isdigit()]
+        if what == "tree":
+            for name, value in zip(("get", "share", "put", "map"), (rest[0] / n, rest[1] / 1000, 4 * rest[2] / n, 4 * rest[3] / n)):
+                told[name, n].append(value)
+        elif what == "insert":
+            told["insert", n].append(4 * rest[0] / n)
+        else:
+            told["at", n].append(rest[0] / n)
+            told["walk", n].append(rest[1] / n)
+ns = {key: statistics.median(values) for key, values in told.items()}
+few, many = 20_000, 1_000_000
+for n in (few, many):
+    print(f"{n:7} keys: get {ns['get', n]:.0f}, share {ns['share', n]:.0f}, put {ns['put', n]:.0f}, BTreeMap insert {ns['map', n]:.0f} ns")
+print(f"{few:7} keys: insert {ns['insert', few]:.0f} ns; rows: at {ns['at', few]:.0f}, walk {ns['walk', few]:.0f} ns a row")
+print(f"at 20,000: insert {ns['insert', few] / ns['put', few]:.1f} times put (bar 3), put {ns['put', few] / ns['map', few]:.1f} times BTreeMap insert (bar 3), an at {ns['at', few] / ns['walk', few]:.1f} times a row of a walk (bar 5)")
+print("at 1,000,000 beside 20,000: " + ", ".join(f"{name} {ns[name, many] / ns[name, few]:.1f} times" for name in ("put", "get", "share", "map")) + " (bar 5 for put and get)")
+PYTHON
