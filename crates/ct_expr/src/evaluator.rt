@@ -78,6 +78,25 @@ pub fn holds<L: Versions>(
     }
 }
 
+/// The key that the values of CHANGETABLE(VERSION ..) make on a row, and the version row at that key. The errors are those of `eval`.
+pub fn row_version<L: Versions>(
+    alloc: Global,
+    version: &BoundRowVersion,
+    row: &Row,
+    env: &Env<'_>,
+    versions: &L,
+) -> Result<(Key, VersionRow), Refusal>
+    ensures { Gives (spec.row_version (scene row.now env.now (L.row_of versions.now)) version.now) result }
+{
+    Scene {
+        alloc,
+        row,
+        env,
+        versions,
+    }
+    .row_version(version)
+}
+
 /// On what an expression is evaluated.
 #[derive(Drop)]
 struct Scene<'a, L> {

@@ -182,7 +182,8 @@ pub(crate) fn min_valid_version(tables: &[Catalogued], table: &Value) -> Value
     }
 }
 
-fn one_or_zero(told: bool) -> Value
+/// A truth as a value: 1 or 0.
+pub fn one_or_zero(told: bool) -> Value
     ensures { result ≡ spec.one_or_zero told }
 {
     Value::Int(i64::from(told))

@@ -10,8 +10,8 @@ mod numbers;
 mod tables;
 
 pub use env::{Env, Versions};
-pub use evaluator::{eval, holds, truth};
-pub use functions::{bytes_or_null, counted, counted_or_null, variable_at};
+pub use evaluator::{eval, holds, row_version, truth};
+pub use functions::{bytes_or_null, counted, counted_or_null, one_or_zero, variable_at};
 pub use laws::{de_morgan, double_negation, mirror, text_names};
 pub use numbers::negative;
 pub use tables::table_named;

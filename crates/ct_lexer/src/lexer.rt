@@ -1,11 +1,18 @@
-ghost use Rattle.std.specs.Prelude.{◌≡◌, ◌<◌, ◌^◌, length, IfOk, IfErr, All};
+ghost use Rattle.std.specs.Prelude.{◌≡◌, ◌<◌, ◌^◌, [], length, IfOk, IfErr, All};
 ghost use Rattle.ct_lexer.specs.Cutting.{IsCut, IsWrong};
 ghost use Rattle.ct_lexer.specs.Spans.{AllFit, Rises, Stands};
 
 use crate::scan::{gap_len, token_at};
 use crate::{LexError, Token};
 use ct_types::List;
-use std::alloc::Global;
+use std::alloc::{AllocError, Global};
+
+/// No token, with room for one in every two bytes, so that the list of most statements never grows.
+fn with_room(alloc: Global, bytes: usize) -> Result<List<Token>, AllocError>
+    ensures { IfOk result (λ made. made ≡ []) }
+{
+    Ok(List::from_vec(Vec::with_capacity(alloc, bytes / 2)?))
+}
 
 /// The tokens of a text, in order, without the blanks and comments between them. Spans are 32 bits wide, so the text is
 /// shorter than 2^32 bytes.
@@ -28,7 +35,7 @@ pub fn tokens(alloc: Global, text: &str) -> Result<List<Token>, LexError>
     ensures fitting { IfOk result (AllFit text.now) }
 {
     let bytes = text.as_bytes();
-    let mut found = List::new(alloc);
+    let mut found = with_room(alloc, bytes.len())?;
     let mut at = 0;
     while at < bytes.len() {
         let rest = &bytes[at..];

@@ -1,6 +1,7 @@
 ghost use Rattle.std.specs.Prelude.{◌≡◌};
 
 use ct_types::Memory;
+use std::alloc::AllocError;
 
 /// The kinds of tokens.
 #[derive(Clone, Copy, Debug, PartialEq, Eq)]
@@ -38,6 +39,17 @@ pub enum LexError {
     Syntax(u32),
     /// Want of memory, at any point.
     Memory,
+}
+
+impl From<AllocError> for LexError {
+    ghost use Rattle.std.specs.Prelude.{◌≡◌};
+    ghost use Rattle.ct_lexer.specs.declared.token.LexError.TheVariants as errors;
+
+    ghost from_gives = { λ _ error. error ≡ errors.Memory };
+
+    fn from(_: AllocError) -> LexError {
+        LexError::Memory
+    }
 }
 
 impl From<(Token, Memory)> for LexError {

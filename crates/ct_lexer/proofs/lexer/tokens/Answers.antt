@@ -5,7 +5,7 @@ use Rattle.ct_lexer.proofs.Spans.{spans_rise, tokens_fit, tokens_stand}
 use Rattle.ct_lexer.proofs.lexer.tokens.Goals as goal
 
 pub loop-at-init : goal.loop-at-init
-loop-at-init c = cut_none c.as_bytes-bytes.result.now c.new-found.result c.new-found.ensures
+loop-at-init c = cut_none c.as_bytes-bytes.result.now _ c.in_ok-found.ensures
 
 pub loop-at-preserved-in-Some : goal.loop-at-preserved-in-Some
 loop-at-preserved-in-Some c =
