@@ -62,7 +62,7 @@ moves_map noted changes P f same moves (t ∷ ts) id all after is within =
 -- writes
 
 -- the writes fit this table, each after those before it
-abbrev WritesOn : List Write → Table → Type 0
+abbrev pub WritesOn : List Write → Table → Type 0
 WritesOn [] table = Unit {0}
 WritesOn (write ∷ writes) table = (table.schema.id ≡ write.table → WriteFits write table) × WritesOn writes (written write table)
 
@@ -71,7 +71,7 @@ all_from_map : {X : Type 0} (P Q : X → Type 0) (f : X → X) (xs : List X) →
 all_from_map P Q f [] ps qs = tt
 all_from_map P Q f (x ∷ xs) ps qs = ((qs.0, ps.0), all_from_map P Q f xs ps.1 qs.1)
 
-writes_on : (writes : List Write) (tables : List Table) → AreNumbered 1 tables → WritesApply tables writes
+pub writes_on : (writes : List Write) (tables : List Table) → AreNumbered 1 tables → WritesApply tables writes
     → AllByRecursion (WritesOn writes) tables
 writes_on [] tables numbered apply = all_everywhere _ (λ t. tt) tables
 writes_on (write ∷ writes) tables numbered apply =

@@ -63,7 +63,7 @@ last_is : (P Q : Dated → Type 0) (changes : List Dated) → Somewhere P change
 last_is P Q [] some all = elim some [ ]
 last_is P Q (dated ∷ more) some all = last_all Q dated more all
 
-last_in : (P : Dated → Type 0) (changes : List Dated) → IsSomeAnd (last_of changes) P → Somewhere P changes
+pub last_in : (P : Dated → Type 0) (changes : List Dated) → IsSomeAnd (last_of changes) P → Somewhere P changes
 last_in P [] last = elim last [ ]
 last_in P (dated ∷ []) last = inl last
 last_in P (dated ∷ next ∷ more) last = inr (last_in P (next ∷ more) last)

@@ -29,7 +29,7 @@ use Rattle.ct_model_laws.proofs.Somewhere.{Somewhere, some_weaken, some_map, som
 
 -- ---- some member, by its place and by recursion
 
-any_from_some : {X : Type 0} (P : X → Type 0) (xs : List X) → Somewhere P xs → Any P xs
+pub any_from_some : {X : Type 0} (P : X → Type 0) (xs : List X) → Somewhere P xs → Any P xs
 any_from_some P [] some = elim some [ ]
 any_from_some P (x ∷ xs) (inl holds) = (zero, x, omega arith, refl, holds)
 any_from_some P (x ∷ xs) (inr some) = let found : Any P xs = any_from_some P xs some in (suc found.0, found.1, omega (arith, found.2), found.3, found.4)
@@ -39,7 +39,7 @@ some_at P [] k x lt e holds = absurd (omega arith)
 some_at P (y ∷ ys) zero x lt e holds = inl (subst P (sym e) holds)
 some_at P (y ∷ ys) (suc k) x lt e holds = inr (some_at P ys k x (omega arith) e holds)
 
-some_from_any : {X : Type 0} (P : X → Type 0) (xs : List X) → Any P xs → Somewhere P xs
+pub some_from_any : {X : Type 0} (P : X → Type 0) (xs : List X) → Any P xs → Somewhere P xs
 some_from_any P xs any = some_at P xs any.0 any.1 any.2 any.3 any.4
 
 -- ---- the keys rise
@@ -69,12 +69,12 @@ one_made : {Y : Type 0} (Q : Y → Type 0) (o : Option Y) (ys : List Y) → IfSo
 one_made Q None ys holds all = all
 one_made Q (Some y) ys holds all = (holds, all)
 
-all_made : {X Y : Type 0} (P : X → Type 0) (Q : Y → Type 0) (f : X → Option Y) → ((x : X) → P x → IfSome (f x) Q) → (xs : List X)
+pub all_made : {X Y : Type 0} (P : X → Type 0) (Q : Y → Type 0) (f : X → Option Y) → ((x : X) → P x → IfSome (f x) Q) → (xs : List X)
     → AllByRecursion P xs → AllByRecursion Q (filter_map f xs)
 all_made P Q f makes [] all = tt
 all_made P Q f makes (x ∷ xs) all = one_made Q (f x) (filter_map f xs) (makes x all.0) (all_made P Q f makes xs all.1)
 
-both_made : {Y : Type 0} (P Q : Y → Type 0) → ((y : Y) → P y → Q y) → (o : Option Y) → IfSome o P → IfSome o Q
+pub both_made : {Y : Type 0} (P Q : Y → Type 0) → ((y : Y) → P y → Q y) → (o : Option Y) → IfSome o P → IfSome o Q
 both_made P Q weaken None holds = tt
 both_made P Q weaken (Some y) holds = weaken y holds
 
@@ -83,7 +83,7 @@ next_made : {Y : Type 0} (S : Y → Y → Type 0) (o : Option Y) (ys : List Y) �
 next_made S None ys all each = each
 next_made S (Some y) ys all each = (all, each)
 
-each_made : {X Y : Type 0} (R : X → X → Type 0) (S : Y → Y → Type 0) (Of : X → Y → Type 0) (f : X → Option Y) → ((x : X) → IfSome (f x) (Of x))
+pub each_made : {X Y : Type 0} (R : X → X → Type 0) (S : Y → Y → Type 0) (Of : X → Y → Type 0) (f : X → Option Y) → ((x : X) → IfSome (f x) (Of x))
     → ((x z : X) (y w : Y) → Of x y → Of z w → R x z → S y w) → (xs : List X) → EachToLater R xs → EachToLater S (filter_map f xs)
 each_made R S Of f made keeps [] each = tt
 each_made R S Of f made keeps (x ∷ xs) each =
@@ -94,12 +94,12 @@ each_made R S Of f made keeps (x ∷ xs) each =
 
 -- ---- a row
 
-inserts_are : (op : Op) → (is_insert op ≡ true) ↔ (op ≡ Insert)
+pub inserts_are : (op : Op) → (is_insert op ≡ true) ↔ (op ≡ Insert)
 inserts_are Insert = (λ e. refl, λ e. refl)
 inserts_are Update = (λ e. cc, λ e. cc)
 inserts_are Delete = (λ e. cc, λ e. cc)
 
-has_insert_is : (changes : List Dated) → (has_insert changes ≡ true) ↔ HasInsert changes
+pub has_insert_is : (changes : List Dated) → (has_insert changes ≡ true) ↔ HasInsert changes
 has_insert_is changes = (
   λ e. let any = Any-from_list_any (λ (dated : Dated). is_insert dated.change.op) changes e in (any.0, any.1, any.2, any.3, (inserts_are any.1.change.op).0 any.4),
   λ any. list_any-from_Any (λ (dated : Dated). is_insert dated.change.op) changes (any.0, any.1, any.2, any.3, (inserts_are any.1.change.op).1 any.4),
@@ -147,7 +147,7 @@ record IsRowOf (changes : List Dated) (key : Key) (row : NetRow) : Type 0 where
   same : row.key ≡ key
   tells : Tells changes row
 
-last_has : (P : Dated → Type 0) (changes : List Dated) → AllByRecursion P changes → IfSome (last_of changes) P
+pub last_has : (P : Dated → Type 0) (changes : List Dated) → AllByRecursion P changes → IfSome (last_of changes) P
 last_has P [] all = tt
 last_has P (dated ∷ []) all = all.0
 last_has P (dated ∷ next ∷ more) all = last_has P (next ∷ more) all.1

@@ -1,6 +1,6 @@
 -- That some member of a list has a fact, where lists are filtered, joined and mapped.
 use Rattle.std.proofs.Common.{◌≡◌, ◌<◌, ◌⊎◌, inl, inr, ℕ, zero, suc, Bool, true, false, cond, List, [], ◌∷◌, ◌++◌, map, filter, flat_map, filter_map, length, get_or, Contains, Option, None, Some, IsSomeAnd, refl, sym, arith}
-use Rattle.std.specs.List.{cons_option, list_any}
+use Rattle.std.specs.List.{AllByRecursion, cons_option, list_any}
 use Rattle.std.proofs.Common.{◌||◌}
 
 abbrev pub Somewhere : {X : Type 0} → (X → Type 0) → List X → Type 0
@@ -120,3 +120,10 @@ some_from_place x (y ∷ ys) (suc k) lt e = inr (some_from_place x ys k (omega a
 
 pub some_from_contains : {X : Type 0} (x : X) (xs : List X) → Contains xs x → Somewhere (λ y. y ≡ x) xs
 some_from_contains x xs found = some_from_place x xs found.0 found.1 found.2
+
+-- some member has a fact, and each has another
+pub some_join : {X : Type 0} (P Q R : X → Type 0) → ((x : X) → P x → Q x → R x) → (xs : List X) → Somewhere P xs → AllByRecursion Q xs
+    → Somewhere R xs
+some_join P Q R join [] h all = elim h [ ]
+some_join P Q R join (x ∷ xs) (inl h) all = inl (join x h all.0)
+some_join P Q R join (x ∷ xs) (inr h) all = inr (some_join P Q R join xs h all.1)

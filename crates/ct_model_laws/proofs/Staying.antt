@@ -11,7 +11,7 @@ use Rattle.ct_model.specs.Tables.{table_of, is_above}
 use Rattle.ct_model_laws.proofs.NetKeys.{IsOf, HasAbove, IsWithin}
 use Rattle.ct_model_laws.proofs.Somewhere.{Somewhere, some_append_left, some_append_right, some_map, some_filter}
 
-above_within : (noted version : ℕ) (tracked : Option Tracked) → IsWithin noted tracked → noted < version → is_above version tracked ≡ true
+pub above_within : (noted version : ℕ) (tracked : Option Tracked) → IsWithin noted tracked → noted < version → is_above version tracked ≡ true
 above_within noted version None within lt = elim within [ ]
 above_within noted version (Some tracked) within lt = lt-ltb tracked.min version (omega (arith, within))
 
@@ -20,7 +20,7 @@ or_true true = refl
 or_true false = refl
 
 -- a commit stays if some table is found whose minimum is below its version
-commit_found : (version id : ℕ) (tables : List Table) → IsSomeAnd (table_of tables id) (λ t. is_above version t.tracked ≡ true)
+pub commit_found : (version id : ℕ) (tables : List Table) → IsSomeAnd (table_of tables id) (λ t. is_above version t.tracked ≡ true)
     → list_any (λ t. is_above version t.tracked) tables ≡ true
 commit_found version id [] found = elim found [ ]
 commit_found version id (t ∷ ts) found =
@@ -29,7 +29,7 @@ commit_found version id (t ∷ ts) found =
     step (eqb t.schema.id id) found
 
 -- a change stays if its table is found with a minimum below its version
-change_found : (version : ℕ) (change : Change) (tables : List Table)
+pub change_found : (version : ℕ) (change : Change) (tables : List Table)
     → IsSomeAnd (table_of tables change.table) (λ t. is_above version t.tracked ≡ true) → change_stays tables version change ≡ true
 change_found version change [] found = elim found [ ]
 change_found version change (t ∷ ts) found =
