@@ -1,0 +1,6 @@
+pub mod Appending
+pub mod Filling
+pub mod Frames
+pub mod Gates
+pub mod OneReading
+pub mod Records

@@ -1,0 +1,4 @@
+pub mod Append
+pub mod Laws
+pub mod Log
+pub mod Reading
