@@ -1,0 +1,5 @@
+pub mod Kept
+pub mod Moves
+pub mod Sets
+pub mod Taking
+pub mod Waits
