@@ -1,3 +1,4 @@
+pub mod Backwards
 pub mod LaterChanges
 pub mod Listing
 pub mod Numbered

@@ -3,15 +3,17 @@ ghost use Rattle.std.specs.Option.{option_copied};
 ghost use Rattle.ct_model.specs.Apply.{apply as applied, no_db};
 ghost use Rattle.ct_model.specs.Net.{net as net_changes};
 ghost use Rattle.ct_model.specs.Tables.{catalogued, table_of};
+ghost use Rattle.ct_model.specs.Versions.{row_version as row_version_of};
 ghost use Rattle.ct_database.specs.Storable.{IsStorable};
 
 use crate::changing::{act_on, keep_of};
 use crate::commits::Commits;
 use crate::fresh::commit_of;
+use crate::last::last_row;
 use crate::net::net_since;
 use crate::tables::Tables;
 use ct_source::Stored;
-use ct_types::{Catalogued, Entry, Keep, List, Memory, NetRow};
+use ct_types::{Catalogued, Entry, Keep, Kept, Key, List, Memory, NetRow, VersionRow};
 use std::alloc::Global;
 use std::marker::Model;
 
@@ -91,6 +93,23 @@ impl Database {
         ensures { IfOk result (λ made. made ≡ net_changes self.now table since) }
     {
         net_since(alloc, self.tables.table(table), &self.kept, since)
+    }
+
+    /// The commits whose changes are kept, by rising version.
+    pub fn kept(&self) -> &[Kept]
+        ensures { result.now ≡ self.now.kept }
+    {
+        self.kept.as_slice()
+    }
+
+    /// The version and the context of the last kept change of a key, or none of both.
+    ///
+    /// It walks the kept commits from the newest back to that change, and copies its context, which takes memory; a key without a
+    /// kept change costs all that is kept.
+    pub fn row_version(&self, alloc: Global, table: u32, key: &Key) -> Result<VersionRow, Memory>
+        ensures { IfOk result (λ made. made ≡ row_version_of self.now table key.now) }
+    {
+        last_row(alloc, table, key, self.kept.as_slice())
     }
 
     /// Makes of the database what one committed entry makes of it, in place, at the cost of what the entry touches. An act that

@@ -6,6 +6,7 @@ mod changing;
 mod commits;
 mod database;
 mod fresh;
+mod last;
 mod laws;
 mod net;
 mod tables;
