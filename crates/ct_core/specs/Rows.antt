@@ -1,22 +1,25 @@
 -- How the rows of a source are found in two steps, as the code does it. No promise speaks of them.
-use Rattle.std.specs.Prelude.{List, [], Option, None, Some, Ok, Err}
+use Rattle.std.specs.Prelude.{List, [], Option, None, Some, Ok}
 use Rattle.ct_types.specs.declared.bound.BoundSource.{BoundSource}
+use Rattle.ct_types.specs.declared.bound.Join.{Join}
+use Rattle.ct_types.specs.declared.bound.Join.TheVariants.{Apply}
 use Rattle.ct_types.specs.declared.bound.BoundSource.TheVariants as source
-use Rattle.ct_types.specs.declared.refusal.Refusal.TheVariants.{NotBuilt}
 use Rattle.ct_types.specs.declared.value.Row.{Row}
 use Rattle.ct_model.specs.declared.db.Db.{Db}
 use Rattle.ct_model.specs.Tables.{table_of}
-use Rattle.ct_types.specs.Answers.{Answer}
-use Rattle.ct_machine.specs.Reads.{changes_rows, rows_of}
+use Rattle.ct_types.specs.Answers.{Answer, each}
+use Rattle.ct_machine.specs.Reads.{rows_of, source_rows, version_on}
 
 -- the rows that are made for a source; those of a table are lent
 abbrev pub made_rows : Db → Option BoundSource → Answer (List Row)
 made_rows db None = Ok []
 made_rows db (Some (source.Table id)) = Ok []
-made_rows db (Some (source.Changes id since)) = changes_rows db id since
-made_rows db (Some (source.Version version)) = Err NotBuilt
-made_rows db (Some source.CommitTable) = Err NotBuilt
-made_rows db (Some source.TrackingTables) = Err NotBuilt
+made_rows db (Some other) = source_rows db other
+
+-- the rows that are made for the right source: in CROSS APPLY one for each left row
+abbrev pub made_right : Db → Join → Option BoundSource → List Row → Answer (List Row)
+made_right db Apply (Some (source.Version version)) lefts = each (version_on db version) lefts
+made_right db join right lefts = made_rows db right
 
 -- the rows of a source, of which some were made
 abbrev pub chosen_rows : Db → Option BoundSource → List Row → List Row

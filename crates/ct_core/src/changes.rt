@@ -34,7 +34,12 @@ fn context(alloc: Global, bytes: &Option<Bin>) -> Result<Value, Memory>
     Ok(bytes_or_null(bytes.copy(alloc)?))
 }
 
-fn push_all(alloc: Global, values: &mut List<Value>, more: &[Value]) -> Result<(), Memory>
+/// Adds copies of these values at the end.
+pub(crate) fn push_all(
+    alloc: Global,
+    values: &mut List<Value>,
+    more: &[Value],
+) -> Result<(), Memory>
     ensures { OnOk result (values.new ≡ values.old ++ more.now) }
 {
     for value in more {

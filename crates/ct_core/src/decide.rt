@@ -14,7 +14,8 @@ ghost use Rattle.ct_machine.specs.Fits.{AnswerFits, FitsOn, RowsFit, WriteFits};
 ghost use Rattle.ct_source.specs.Rows.{IsRowOf};
 ghost use Rattle.ct_core.specs.Range.{AreStorable, DecisionIsKept, HasTables};
 
-use crate::reads::{NoVersions, env, selected};
+use crate::reads::{env, selected};
+use crate::versions::LastVersions;
 use ct_bind::bind;
 use ct_database::Database;
 use ct_machine::{Decision, is_built};
@@ -90,7 +91,13 @@ fn writes_on(
     ensures keyed { IfOk result (λ made. AllByRecursion (λ one. IfSome one.row (IsRowOf table.now.schema one.key)) made) }
 {
     let variables = Variables(List::new(alloc));
-    writes(alloc, write, table, &env(db, &variables), &NoVersions)
+    writes(
+        alloc,
+        write,
+        table,
+        &env(db, &variables),
+        &LastVersions { db },
+    )
 }
 
 fn write_to(
@@ -169,6 +176,12 @@ fn decide_bound(alloc: Global, db: &Database, statement: Bound) -> Result<Decisi
         Bound::EnableTracking { table, masks } => {
             Ok(Decision::Commits(Act::Enable { table, masks }, Reply::Done))
         }
+        Bound::DisableTracking { table } => {
+            Ok(Decision::Commits(Act::Disable(table), Reply::Done))
+        }
+        Bound::TruncateTable { table } => {
+            Ok(Decision::Commits(Act::Truncate(table), Reply::Done))
+        }
         Bound::Write(write) => write_once(alloc, db, write),
         Bound::Select(query) => select_once(alloc, db, query),
         Bound::SetVariable { variable: _, value } => Ok(not_built(value)),
@@ -177,9 +190,7 @@ fn decide_bound(alloc: Global, db: &Database, statement: Bound) -> Result<Decisi
             kind: _,
             value,
         } => Ok(not_built((variable, value))),
-        Bound::DisableTracking { table: _ }
-        | Bound::TruncateTable { table: _ }
-        | Bound::Begin
+        Bound::Begin
         | Bound::Commit
         | Bound::Rollback
         | Bound::SetIsolation(_)
@@ -235,7 +246,7 @@ pub(crate) fn decide_command(
     match what {
         Command::Wrong(refusal) => Ok(Decision::Refuses(refusal.copy(alloc)?)),
         Command::Sql(statement) => {
-            if is_built(alloc, statement)? {
+            if is_built(statement) {
                 decide_sentence(alloc, db, statement)
             } else {
                 Ok(Decision::Refuses(Refusal::NotBuilt))

@@ -5,5 +5,7 @@ mod changes;
 mod core_state;
 mod decide;
 mod reads;
+mod system;
+mod versions;
 
 pub use core_state::Core;

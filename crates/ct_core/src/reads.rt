@@ -1,5 +1,7 @@
 ghost use Rattle.std.specs.Prelude.{◌≡◌, [], map, IfOk};
-ghost use Rattle.ct_types.specs.Answers.{Gives};
+ghost use Rattle.ct_types.specs.Answers.{Gives, each};
+ghost use Rattle.ct_types.specs.declared.bound.BoundSource.TheVariants as source;
+ghost use Rattle.ct_types.specs.declared.bound.Join.TheVariants as join;
 ghost use Rattle.ct_machine.specs.Reads as spec;
 ghost use Rattle.ct_model.specs.Net.{net as net_changes};
 ghost use Rattle.ct_model.specs.Tables.{table_of};
@@ -8,31 +10,17 @@ ghost use Rattle.ct_model.specs.Versions.{current as current_version};
 ghost use Rattle.ct_core.specs.Rows as steps;
 
 use crate::changes::show_changes;
+use crate::system::{commit_rows, tracking_rows};
+use crate::versions::{LastVersions, version_on, versions_on};
 use ct_database::Database;
-use ct_expr::{Env, Versions, eval};
+use ct_expr::{Env, eval};
 use ct_query::select;
 use ct_source::Source;
 use ct_types::{
-    BoundExpr, BoundSelect, BoundSource, Grid, Key, List, Memory, Refusal, Row, Value, Variables,
-    VersionRow,
+    BoundExpr, BoundRowVersion, BoundSelect, BoundSource, Grid, Join, List, Memory, Refusal, Row,
+    Value, Variables, push,
 };
 use std::alloc::Global;
-
-/// The rows of CHANGETABLE(VERSION ..), for which nothing asks yet.
-pub(crate) struct NoVersions;
-
-impl Versions for NoVersions {
-    ghost use Rattle.ct_machine.specs.Reads.{no_version};
-
-    ghost row_of = { λ _ table key. no_version table key };
-
-    fn version(&self, _alloc: Global, _table: u32, _key: &Key) -> Result<VersionRow, Memory> {
-        Ok(VersionRow {
-            version: None,
-            context: None,
-        })
-    }
-}
 
 fn current(db: &Database) -> Option<u64>
     ensures { result ≡ current_version db.now }
@@ -89,8 +77,24 @@ fn changes_rows(
     ensures { Gives (spec.changes_rows db.now table last.now) result }
 {
     let row = Row(List::new(alloc));
-    let last = eval(alloc, last, &row, env, &NoVersions)?;
+    let last = eval(alloc, last, &row, env, &LastVersions { db })?;
     Ok(changes_since(alloc, db, table, &last)?)
+}
+
+/// The one row of CHANGETABLE(VERSION ..) whose values name no column.
+fn version_rows(
+    alloc: Global,
+    db: &Database,
+    env: &Env<'_>,
+    version: &BoundRowVersion,
+) -> Result<List<Row>, Refusal>
+    requires { env.now ≡ spec.env_of db.now }
+    ensures { Gives (spec.source_rows db.now (source.Version version.now)) result }
+{
+    let none = Row(List::new(alloc));
+    let mut made = List::new(alloc);
+    push(&mut made, version_on(alloc, db, env, version, &none)?)?;
+    Ok(made)
 }
 
 /// The rows that are made for a source; those of a table are lent.
@@ -106,7 +110,66 @@ fn made_rows(
     match source {
         None | Some(BoundSource::Table(_)) => Ok(List::new(alloc)),
         Some(BoundSource::Changes { table, since }) => changes_rows(alloc, db, env, *table, since),
-        Some(_) => Err(Refusal::NotBuilt),
+        Some(BoundSource::Version(version)) => version_rows(alloc, db, env, version),
+        Some(BoundSource::CommitTable) => Ok(commit_rows(alloc, db.kept())?),
+        Some(BoundSource::TrackingTables) => Ok(tracking_rows(alloc, db.catalogue())?),
+    }
+}
+
+/// The rows of a VERSION of CROSS APPLY: one for each left row.
+fn applied_rows(
+    alloc: Global,
+    db: &Database,
+    env: &Env<'_>,
+    version: &BoundRowVersion,
+    left: Source<'_>,
+) -> Result<List<Row>, Refusal>
+    requires { env.now ≡ spec.env_of db.now }
+    ensures { Gives (each (spec.version_on db.now version.now) (source_rows left.entry)) result }
+{
+    let lefts = left.all(alloc)?;
+    versions_on(alloc, db, env, version, lefts.as_slice())
+}
+
+/// The rows that are made for the right source of CROSS APPLY.
+fn made_apply(
+    alloc: Global,
+    db: &Database,
+    env: &Env<'_>,
+    right: &Option<BoundSource>,
+    left: Source<'_>,
+) -> Result<List<Row>, Refusal>
+    requires { env.now ≡ spec.env_of db.now }
+    ensures { Gives (steps.made_right db.now join.Apply right.now (source_rows left.entry)) result }
+{
+    match right {
+        Some(BoundSource::Version(version)) => applied_rows(alloc, db, env, version, left),
+        None
+        | Some(
+            BoundSource::Table(_)
+            | BoundSource::Changes { .. }
+            | BoundSource::CommitTable
+            | BoundSource::TrackingTables,
+        ) => made_rows(alloc, db, env, right),
+    }
+}
+
+/// The rows that are made for the right source.
+fn made_right(
+    alloc: Global,
+    db: &Database,
+    env: &Env<'_>,
+    query: &BoundSelect,
+    left: Source<'_>,
+) -> Result<List<Row>, Refusal>
+    requires { env.now ≡ spec.env_of db.now }
+    ensures { Gives (steps.made_right db.now query.now.plan.join query.now.right (source_rows left.entry)) result }
+{
+    match query.plan.join {
+        Join::Apply => made_apply(alloc, db, env, &query.right, left),
+        Join::One | Join::Inner | Join::Left | Join::Right => {
+            made_rows(alloc, db, env, &query.right)
+        }
     }
 }
 
@@ -131,15 +194,15 @@ fn chosen_rows<'a>(db: &'a Database, source: &Option<BoundSource>, made: &'a [Ro
 }
 
 /// What a SELECT answers.
-#[tactic(auto, using(crate::proofs::Rows::optional_made))]
+#[tactic(auto, using(crate::proofs::Rows::optional_made, crate::proofs::Rows::right_made))]
 pub(crate) fn selected(alloc: Global, db: &Database, query: &BoundSelect) -> Result<Grid, Refusal>
     ensures { Gives (spec.selected db.now query.now) result }
 {
     let variables = Variables(List::new(alloc));
     let env = env(db, &variables);
-    let left = made_rows(alloc, db, &env, &query.left)?;
-    let right = made_rows(alloc, db, &env, &query.right)?;
-    let left = chosen_rows(db, &query.left, left.as_slice());
-    let right = chosen_rows(db, &query.right, right.as_slice());
-    select(alloc, &query.plan, left, right, &env, &NoVersions)
+    let lefts = made_rows(alloc, db, &env, &query.left)?;
+    let left = chosen_rows(db, &query.left, lefts.as_slice());
+    let rights = made_right(alloc, db, &env, query, left)?;
+    let right = chosen_rows(db, &query.right, rights.as_slice());
+    select(alloc, &query.plan, left, right, &env, &LastVersions { db })
 }

@@ -4,7 +4,7 @@ use Rattle.std.specs.Prelude.{ℕ, Bool, true, false, List, [], ◌∷◌, lengt
 use Rattle.ct_types.specs.declared.bound.Bound.{Bound}
 use Rattle.ct_types.specs.declared.bound.Bound.TheVariants as bound
 use Rattle.ct_types.specs.declared.bound.BoundWrite.{BoundWrite}
-use Rattle.ct_types.specs.declared.entry.Act.TheVariants.{Commit, Define, Enable, Database}
+use Rattle.ct_types.specs.declared.entry.Act.TheVariants.{Commit, Define, Truncate, Enable, Disable, Database}
 use Rattle.ct_types.specs.declared.entry.Write.{Write}
 use Rattle.ct_types.specs.declared.refusal.Refusal.{Refusal}
 use Rattle.ct_types.specs.declared.refusal.Refusal.TheVariants.{Duplicate, NotBuilt}
@@ -70,8 +70,8 @@ decide_bound db (bound.CreateTable schema) = Commits (Define schema) Done
 decide_bound db (bound.EnableTracking table masks) = Commits (Enable table masks) Done
 decide_bound db (bound.Write write) = written db write (table_of db.tables write.table)
 decide_bound db (bound.Select query) = answered (selected db query)
-decide_bound db (bound.DisableTracking table) = Refuses NotBuilt
-decide_bound db (bound.TruncateTable table) = Refuses NotBuilt
+decide_bound db (bound.DisableTracking table) = Commits (Disable table) Done
+decide_bound db (bound.TruncateTable table) = Commits (Truncate table) Done
 decide_bound db bound.Begin = Refuses NotBuilt
 decide_bound db bound.Commit = Refuses NotBuilt
 decide_bound db bound.Rollback = Refuses NotBuilt

@@ -1,16 +1,21 @@
 -- What a statement reads of a database: the catalogue in which names are bound, what the functions of expressions may ask for,
--- and the rows of the sources of a SELECT. The columns of CHANGETABLE(CHANGES ..) are those of
--- https://learn.microsoft.com/sql/relational-databases/system-functions/changetable-transact-sql.
-use Rattle.std.specs.Prelude.{ℕ, ℤ, ◌==◌, codes, Bool, false, List, [], ◌∷◌, map, Option, None, Some, is_some, Ok, Err, if◌then◌else◌}
+-- and the rows of the sources of a SELECT. The columns of CHANGETABLE are those of
+-- https://learn.microsoft.com/sql/relational-databases/system-functions/changetable-transact-sql; those of the two system tables
+-- are some of the ones that the reference gives for sys.dm_tran_commit_table and sys.change_tracking_tables.
+use Rattle.std.specs.Prelude.{ℕ, ℤ, ◌==◌, codes, Bool, false, List, [], ◌∷◌, map, Option, None, Some, is_some, Ok, if◌then◌else◌}
 use Rattle.std.specs.Option.{option_map}
+use Rattle.std.specs.List.{filter_map}
 use Rattle.ct_types.specs.declared.bound.BoundExpr.{BoundExpr}
+use Rattle.ct_types.specs.declared.bound.BoundRowVersion.{BoundRowVersion}
 use Rattle.ct_types.specs.declared.bound.BoundSelect.{BoundSelect}
 use Rattle.ct_types.specs.declared.bound.BoundSource.{BoundSource}
 use Rattle.ct_types.specs.declared.bound.BoundSource.TheVariants as source
+use Rattle.ct_types.specs.declared.bound.Join.{Join}
+use Rattle.ct_types.specs.declared.bound.Join.TheVariants.{Apply}
 use Rattle.ct_types.specs.declared.catalogue.Catalogued.{Catalogued}
+use Rattle.ct_types.specs.declared.entry.Kept.{Kept}
 use Rattle.ct_types.specs.declared.entry.Op.{Op}
 use Rattle.ct_types.specs.declared.entry.Op.TheVariants.{Insert as inserted, Update as updated, Delete as deleted}
-use Rattle.ct_types.specs.declared.refusal.Refusal.TheVariants.{NotBuilt}
 use Rattle.ct_types.specs.declared.reply.Grid.{Grid}
 use Rattle.ct_types.specs.declared.tracked.NetRow.{NetRow}
 use Rattle.ct_types.specs.declared.tracked.VersionRow.{VersionRow}
@@ -23,11 +28,11 @@ use Rattle.ct_model.specs.declared.db.Db.{Db}
 use Rattle.ct_model.specs.declared.db.Table.{Table}
 use Rattle.ct_model.specs.Net.{net}
 use Rattle.ct_model.specs.Tables.{catalogued, table_of}
-use Rattle.ct_model.specs.Versions.{current}
+use Rattle.ct_model.specs.Versions.{current, row_version as last_version}
 use Rattle.ct_expr.specs.Environment.{Environment}
-use Rattle.ct_expr.specs.Functions.{counted, counted_or_null, bytes_or_null}
-use Rattle.ct_expr.specs.Meaning.{World, on, value}
-use Rattle.ct_types.specs.Answers.{Answer, ◌>>=◌}
+use Rattle.ct_expr.specs.Functions.{counted, counted_or_null, bytes_or_null, one_or_zero}
+use Rattle.ct_expr.specs.Meaning.{World, on, row_version, value}
+use Rattle.ct_types.specs.Answers.{Answer, ◌>>=◌, each}
 use Rattle.ct_query.specs.Answer.{answer}
 
 -- ---- names
@@ -51,13 +56,9 @@ env_of db = record {
   tables = catalogue db;
 }
 
--- CHANGETABLE(VERSION ..) is not built, so nothing asks for its rows
-abbrev pub no_version : ℕ → Key → VersionRow
-no_version table key = record { version = None; context = None }
-
--- beside their row, expressions read this
+-- beside their row, expressions read this: a SELECT in brackets asks for the version of a key's last kept change
 abbrev pub world_of : Db → World
-world_of db = record { env = env_of db; versions = no_version }
+world_of db = record { env = env_of db; versions = last_version db }
 
 -- ---- the rows of CHANGETABLE(CHANGES ..)
 
@@ -85,6 +86,27 @@ since_of (Bytes b) = None
 abbrev pub changes_rows : Db → ℕ → BoundExpr → Answer (List Row)
 changes_rows db id since = value (on (world_of db) (record { 0 = [] })) since >>= (λ last. Ok (map shown (net db id (since_of last))))
 
+-- ---- the row of CHANGETABLE(VERSION ..)
+
+-- SYS_CHANGE_VERSION, SYS_CHANGE_CONTEXT, and the key as it was given
+abbrev pub shown_version : Key × VersionRow → Row
+shown_version found = record { 0 = counted_or_null found.1.version ∷ bytes_or_null found.1.context ∷ found.0.0 }
+
+-- the row of the key that the values make on a row
+abbrev pub version_on : Db → BoundRowVersion → Row → Answer Row
+version_on db version row = row_version (on (world_of db) row) version >>= (λ found. Ok (shown_version found))
+
+-- ---- the rows of the system tables
+
+-- sys.dm_tran_commit_table has commit_ts, xdes_id and commit_time of each kept commit, by rising version
+abbrev pub shown_commit : Kept → Row
+shown_commit one = record { 0 = counted one.version ∷ counted one.xdes ∷ counted one.time ∷ [] }
+
+-- sys.change_tracking_tables has object_id, is_track_columns_updated_on and min_valid_version of each tracked table, by rising id
+abbrev pub shown_tracking : Catalogued → Option Row
+shown_tracking table =
+    option_map (λ tracked. record { 0 = counted table.schema.id ∷ one_or_zero tracked.masks ∷ counted tracked.min ∷ [] }) table.tracked
+
 -- ---- the rows of sources
 
 -- a table that is not there has no rows
@@ -92,13 +114,14 @@ abbrev pub rows_of : Option Table → List Row
 rows_of None = []
 rows_of (Some table) = table.rows
 
--- a table's rows in key order, or one row for each net change; the other sources are not built
+-- a table's rows in key order, one row for each net change, the row of one key, or those of a system table; the values of VERSION
+-- are evaluated on no row, since they name no column here
 abbrev pub source_rows : Db → BoundSource → Answer (List Row)
 source_rows db (source.Table id) = Ok (rows_of (table_of db.tables id))
 source_rows db (source.Changes id since) = changes_rows db id since
-source_rows db (source.Version version) = Err NotBuilt
-source_rows db source.CommitTable = Err NotBuilt
-source_rows db source.TrackingTables = Err NotBuilt
+source_rows db (source.Version version) = version_on db version (record { 0 = [] }) >>= (λ row. Ok (row ∷ []))
+source_rows db source.CommitTable = Ok (map shown_commit db.kept)
+source_rows db source.TrackingTables = Ok (filter_map shown_tracking (catalogue db))
 
 -- of a source that is not there, none
 abbrev pub optional_rows : Db → Option BoundSource → Answer (List Row)
@@ -107,7 +130,12 @@ optional_rows db (Some source) = source_rows db source
 
 -- ---- SELECT
 
+-- the rows of the right source; in CROSS APPLY the values of VERSION are evaluated on each left row
+abbrev pub right_rows : Db → Join → Option BoundSource → List Row → Answer (List Row)
+right_rows db Apply (Some (source.Version version)) lefts = each (version_on db version) lefts
+right_rows db join right lefts = optional_rows db right
+
 -- the rows of the left source, then those of the right one, and what the query answers over them
 abbrev pub selected : Db → BoundSelect → Answer Grid
 selected db query =
-    optional_rows db query.left >>= (λ left. optional_rows db query.right >>= (λ right. answer (world_of db) query.plan left right))
+    optional_rows db query.left >>= (λ left. right_rows db query.plan.join query.right left >>= (λ right. answer (world_of db) query.plan left right))

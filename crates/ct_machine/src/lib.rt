@@ -6,7 +6,6 @@ mod built;
 mod checks;
 mod decision;
 mod laws;
-mod subqueries;
 
 pub use built::is_built;
 pub use checks::{draws_version, has_number, wants_memory};

@@ -1,10 +1,10 @@
--- ALTER DATABASE, CREATE TABLE and ENABLE commit acts that apply; a text that is no sentence and a SELECT commit nothing.
+-- ALTER DATABASE, CREATE TABLE, ENABLE, DISABLE and TRUNCATE commit acts that apply; a text that is no sentence and a SELECT commit nothing.
 use Rattle.std.proofs.Common.{◌≡◌, ℕ, Bool, true, false, [], map, Ok, Err, if◌then◌else◌, refl, subst}
 use Rattle.ct_types.specs.declared.bound.Bound.{Bound}
-use Rattle.ct_types.specs.declared.bound.Bound.TheVariants.{AcceptOption, AlterDatabase, CreateTable, EnableTracking, Select as Selects}
+use Rattle.ct_types.specs.declared.bound.Bound.TheVariants.{AcceptOption, AlterDatabase, CreateTable, EnableTracking, DisableTracking, TruncateTable, Select as Selects}
 use Rattle.ct_types.specs.declared.bound.BoundSelect.{BoundSelect}
 use Rattle.ct_types.specs.declared.entry.Act.{Act}
-use Rattle.ct_types.specs.declared.entry.Act.TheVariants.{Define, Enable, Database}
+use Rattle.ct_types.specs.declared.entry.Act.TheVariants.{Define, Truncate, Enable, Disable, Database}
 use Rattle.ct_types.specs.declared.refusal.Refusal.{Refusal}
 use Rattle.ct_types.specs.declared.refusal.Refusal.TheVariants.{NotBuilt}
 use Rattle.ct_types.specs.declared.reply.Grid.{Grid}
@@ -20,7 +20,7 @@ use Rattle.ct_bind.specs.Queries.{select}
 use Rattle.ct_machine.specs.Built.{is_built}
 use Rattle.ct_machine_laws.proofs.Creating.{Creates, create_kept}
 use Rattle.ct_machine_laws.proofs.Settings.{Sets, settings_apply_by}
-use Rattle.ct_machine_laws.proofs.Switches.{SwitchesOn, enable_kept, new_schema}
+use Rattle.ct_machine_laws.proofs.Switches.{SwitchesOn, SwitchesOff, Empties, enable_kept, disable_kept, truncate_kept, new_schema}
 use Rattle.ct_types.specs.declared.command.Command.{Command}
 use Rattle.ct_types.specs.declared.command.Command.TheVariants.{Sql, Wrong}
 use Rattle.ct_machine.specs.declared.decision.Decision.{Decision}
@@ -29,7 +29,7 @@ use Rattle.ct_machine.specs.Decide.{answered, decide, decide_bound, once_bound}
 use Rattle.ct_machine.specs.Machine.{Machine, db_of}
 use Rattle.ct_machine.specs.Reads.{catalogue, selected}
 use Rattle.ct_machine.specs.Step.{act_draws, decision_of, entry_of}
-use Rattle.ct_machine_laws.specs.Laws.{CommandsCommitWell, IsScriptCommand, CreatesCommitWell, EnablesCommitWell, SelectsCommitWell, SettingsCommitWell, UnbuiltCommitsWell, WrongCommitsWell}
+use Rattle.ct_machine_laws.specs.Laws.{CommandsCommitWell, IsScriptCommand, CreatesCommitWell, EnablesCommitWell, DisablesCommitWell, TruncatesCommitWell, SelectsCommitWell, SettingsCommitWell, UnbuiltCommitsWell, WrongCommitsWell}
 use Rattle.ct_machine_laws.proofs.Soundness.{settled_commits, sound_is_valid}
 
 -- ---- what stands behind a statement that commits
@@ -108,6 +108,40 @@ enables_commit_well m name masks sound act reply e =
     let db = db_of m in
     let version = (entry_of m act).version in
     enables_applies db version it.bound act reply ((enable_kept db version name masks (sound_is_valid m sound).numbered).holds it.bound it.was) it.commits
+
+-- ---- DISABLE
+
+disables_applies : (db : Db) (version : ℕ) (bound : Bound) (act : Act) (reply : Reply) → SwitchesOff db version bound → decide_bound db bound ≡ Commits act reply
+    → ActApplies db version (act_draws db act) act
+unfolding decide_bound
+disables_applies db version (DisableTracking id) act reply switches e =
+    let same : Disable id ≡ act = cc in subst (λ a. ActApplies db version (act_draws db a) a) same switches
+disables_applies db version bound act reply switches e = absurd switches
+
+pub disables_commit_well : DisablesCommitWell
+unfolding binding
+disables_commit_well m name sound act reply e =
+    let it = was_bound m (stmt.DisableTracking name) act reply e in
+    let db = db_of m in
+    let version = (entry_of m act).version in
+    disables_applies db version it.bound act reply ((disable_kept db version name (sound_is_valid m sound).numbered).holds it.bound it.was) it.commits
+
+-- ---- TRUNCATE
+
+truncates_applies : (db : Db) (version : ℕ) (bound : Bound) (act : Act) (reply : Reply) → Empties db version bound → decide_bound db bound ≡ Commits act reply
+    → ActApplies db version (act_draws db act) act
+unfolding decide_bound
+truncates_applies db version (TruncateTable id) act reply empties e =
+    let same : Truncate id ≡ act = cc in subst (λ a. ActApplies db version (act_draws db a) a) same empties
+truncates_applies db version bound act reply empties e = absurd empties
+
+pub truncates_commit_well : TruncatesCommitWell
+unfolding binding
+truncates_commit_well m name sound act reply e =
+    let it = was_bound m (stmt.TruncateTable name) act reply e in
+    let db = db_of m in
+    let version = (entry_of m act).version in
+    truncates_applies db version it.bound act reply ((truncate_kept db version [] name (sound_is_valid m sound).numbered).holds it.bound it.was) it.commits
 
 -- ---- what commits nothing
 

@@ -20,7 +20,7 @@ use Rattle.ct_machine.specs.Step.{step}
 use Rattle.ct_machine_laws.specs.Laws.{IsAccepted}
 use Rattle.ct_machine_laws.specs.Sound.{CommitsWell, IsSound}
 use Rattle.ct_machine.specs.Fits.{AnswerFits, RowsFit}
-use Rattle.ct_machine_laws.proofs.Committing.{commands_commit_well, creates_commit_well, enables_commit_well, selects_commit_well, settings_commit_well, unbuilt_commits_well, wrong_commits_well}
+use Rattle.ct_machine_laws.proofs.Committing.{commands_commit_well, creates_commit_well, disables_commit_well, enables_commit_well, selects_commit_well, settings_commit_well, truncates_commit_well, unbuilt_commits_well, wrong_commits_well}
 use Rattle.ct_machine_laws.proofs.Soundness.{sound_is_valid, stays_sound}
 use Rattle.ct_machine_laws.proofs.Writing.{writes_commit_well}
 use Rattle.ct_machine_laws.proofs.Accepted.{writes_suit_their_table}
@@ -45,6 +45,8 @@ unfolding is_built
 built_commits_well m (stmt.AlterDatabase name option) sound spelled built fits = settings_commit_well m name option sound
 built_commits_well m (stmt.CreateTable name columns key) sound spelled built fits = creates_commit_well m name columns key sound spelled
 built_commits_well m (stmt.EnableTracking name masks) sound spelled built fits = enables_commit_well m name masks sound
+built_commits_well m (stmt.DisableTracking name) sound spelled built fits = disables_commit_well m name sound
+built_commits_well m (stmt.TruncateTable name) sound spelled built fits = truncates_commit_well m name sound
 built_commits_well m (stmt.Write context write) sound spelled built fits = writes_commit_well m context write sound (write_accepted m context write sound spelled fits)
 built_commits_well m (stmt.Select query) sound spelled built fits = selects_commit_well m query
 built_commits_well m statement sound spelled built fits = absurd cc

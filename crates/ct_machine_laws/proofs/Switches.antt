@@ -1,12 +1,13 @@
--- CREATE TABLE, ENABLE and DISABLE come to acts that apply.
+-- CREATE TABLE, ENABLE, DISABLE and TRUNCATE come to acts that apply.
 use Rattle.std.proofs.Common.{◌≡◌, ◌≢◌, ◌≤◌, ◌<◌, ℕ, ◌+◌, Bool, true, false, not, cond, eqb, List, [], ◌∷◌, length, map, find, Option, Some, None, is_some, refl, sym, ap, subst, ◌∙◌, arith, eqb-true, eq-eqb}
 use Rattle.std.specs.List.{AllByRecursion}
 use Rattle.std.specs.Option.{IsSomeAnd}
 use Rattle.std.proofs.lemmas.List.{length-map}
 use Rattle.ct_types.specs.declared.bound.Bound.{Bound}
-use Rattle.ct_types.specs.declared.bound.Bound.TheVariants.{EnableTracking, DisableTracking}
+use Rattle.ct_types.specs.declared.bound.Bound.TheVariants.{EnableTracking, DisableTracking, TruncateTable}
 use Rattle.ct_types.specs.declared.catalogue.Catalogued.{Catalogued}
-use Rattle.ct_types.specs.declared.entry.Act.TheVariants.{Enable, Disable}
+use Rattle.ct_types.specs.declared.catalogue.Variable.{Variable}
+use Rattle.ct_types.specs.declared.entry.Act.TheVariants.{Truncate, Enable, Disable}
 use Rattle.ct_types.specs.declared.expr.ObjectName.{ObjectName}
 use Rattle.ct_types.specs.declared.refusal.Refusal.TheVariants.{AlreadyTracked, NoObject, NotTracked, TrackingOff}
 use Rattle.ct_types.specs.declared.schema.Schema.{Schema}
@@ -22,7 +23,9 @@ use Rattle.ct_model.proofs.Found.{some_and_weaken}
 use Rattle.ct_bind_names.specs.Catalogue.{table_named, existing_table, tracked_table}
 use Rattle.ct_bind_names.specs.Names.{same, table_name}
 use Rattle.ct_bind_definition.specs.Definitions.{enable, disable}
-use Rattle.ct_machine_laws.specs.Acts.{CreatesApply, EnablesApply, DisablesApply}
+use Rattle.ct_bind.specs.Binding.{truncate}
+use Rattle.ct_machine.specs.Step.{is_tracked}
+use Rattle.ct_machine_laws.specs.Acts.{CreatesApply, EnablesApply, DisablesApply, TruncatesApply}
 use Rattle.ct_machine_laws.specs.Schemas.{IsNewTable}
 use Rattle.ct_machine_laws.proofs.Creating.{creates_definable}
 use Rattle.ct_types.proofs.AnswersKept.{Kept, ok_kept, then_kept, met_kept, found_kept}
@@ -130,3 +133,25 @@ disable_kept db version name numbered =
 
 pub disables_apply : DisablesApply
 disables_apply db version name id numbered made = (disable_kept db version name numbered).holds (DisableTracking id) made
+
+-- ---- TRUNCATE
+
+-- of a table that is there, it tells whether that is tracked
+tracked_so : (found : Catalogued) (there : Option Table) → IsSomeAnd there (λ table. found ≡ catalogued table) → IsSomeAnd there (λ table. is_tracked there ≡ is_some table.tracked)
+tracked_so found None is = absurd is
+tracked_so found (Some table) is = refl
+
+-- what is bound empties the table so that the act applies
+abbrev pub Empties : Db → ℕ → Bound → Type 0
+Empties db version (TruncateTable id) = ActApplies db version (is_tracked (table_of db.tables id)) (Truncate id)
+Empties db version bound = ⊥
+
+pub truncate_kept : (db : Db) (version : ℕ) (variables : List Variable) (name : ObjectName) → AreNumbered 1 db.tables
+    → Kept (Empties db version) (truncate (map catalogued db.tables) variables name)
+unfolding truncate
+truncate_kept db version variables name numbered =
+    then_kept (IsThere db.tables) (Empties db version) (existing_table (map catalogued db.tables) name) _ (existing_kept db.tables name numbered)
+    (λ found there. ok_kept (Empties db version) (TruncateTable found.schema.id) (tracked_so found (table_of db.tables found.schema.id) there))
+
+pub truncates_apply : TruncatesApply
+truncates_apply db version variables name id numbered made = (truncate_kept db version variables name numbered).holds (TruncateTable id) made

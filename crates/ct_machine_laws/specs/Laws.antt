@@ -61,7 +61,7 @@ PlaysKeepValid = (journal : List Journaled) → EachCommitsWell (opening no_db) 
 
 -- ---- which statements commit acts that apply
 
--- ALTER DATABASE, and CREATE TABLE of names, and ENABLE
+-- ALTER DATABASE, and CREATE TABLE of names, and ENABLE, DISABLE and TRUNCATE
 abbrev pub SettingsCommitWell : Type 0
 SettingsCommitWell = (m : Machine) (name : List ℕ) (option : DatabaseOption) → IsSound m → CommitsWell m (Sql (stmt.AlterDatabase name option))
 
@@ -71,6 +71,12 @@ CreatesCommitWell = (m : Machine) (name : ObjectName) (columns : List ColumnDef)
 
 abbrev pub EnablesCommitWell : Type 0
 EnablesCommitWell = (m : Machine) (name : ObjectName) (masks : Bool) → IsSound m → CommitsWell m (Sql (stmt.EnableTracking name masks))
+
+abbrev pub DisablesCommitWell : Type 0
+DisablesCommitWell = (m : Machine) (name : ObjectName) → IsSound m → CommitsWell m (Sql (stmt.DisableTracking name))
+
+abbrev pub TruncatesCommitWell : Type 0
+TruncatesCommitWell = (m : Machine) (name : ObjectName) → IsSound m → CommitsWell m (Sql (stmt.TruncateTable name))
 
 -- a text that is no sentence commits nothing, nor does a SELECT
 abbrev pub WrongCommitsWell : Type 0

@@ -1,9 +1,9 @@
 ghost use Rattle.ct_machine_laws.specs.Schemas.{CreatesDefinable};
-ghost use Rattle.ct_machine_laws.specs.Acts.{CreatesApply, EnablesApply, DisablesApply, SettingsApply};
+ghost use Rattle.ct_machine_laws.specs.Acts.{CreatesApply, EnablesApply, DisablesApply, TruncatesApply, SettingsApply};
 ghost use Rattle.ct_machine_laws.specs.Grammar.{ParsedAreSpelled};
 ghost use Rattle.ct_machine_laws.specs.Writes.{WritesSuitTheirTable};
 ghost use Rattle.ct_machine_laws.specs.Laws.{OpensSound, SoundIsValid, EntriesApply, StaysSound, PlaysKeepValid};
-ghost use Rattle.ct_machine_laws.specs.Laws.{SettingsCommitWell, CreatesCommitWell, EnablesCommitWell, WrongCommitsWell, SelectsCommitWell, UnbuiltCommitsWell, CommandsCommitWell, WritesCommitWell};
+ghost use Rattle.ct_machine_laws.specs.Laws.{SettingsCommitWell, CreatesCommitWell, EnablesCommitWell, DisablesCommitWell, TruncatesCommitWell, WrongCommitsWell, SelectsCommitWell, UnbuiltCommitsWell, CommandsCommitWell, WritesCommitWell};
 ghost use Rattle.ct_machine_laws.specs.Keeping.{KeepsSound};
 
 /// A table that CREATE TABLE makes is one that may be defined, has the next id, and no table of the catalogue has its name.
@@ -24,6 +24,11 @@ pub fn enables_apply()
 /// What DISABLE comes to in the catalogue of a database applies to it.
 pub fn disables_apply()
     ensures { DisablesApply }
+{}
+
+/// What TRUNCATE comes to in the catalogue of a database applies to it, and draws a version exactly where the table is tracked.
+pub fn truncates_apply()
+    ensures { TruncatesApply }
 {}
 
 /// What ALTER DATABASE comes to in the catalogue and the settings of a database applies to it.
@@ -81,6 +86,16 @@ pub fn creates_commit_well()
 /// What ENABLE commits applies.
 pub fn enables_commit_well()
     ensures { EnablesCommitWell }
+{}
+
+/// What DISABLE commits applies.
+pub fn disables_commit_well()
+    ensures { DisablesCommitWell }
+{}
+
+/// What TRUNCATE commits applies.
+pub fn truncates_commit_well()
+    ensures { TruncatesCommitWell }
 {}
 
 /// A text that is no sentence commits nothing.

@@ -1,0 +1,5 @@
+use Rattle.ct_machine_laws.proofs.Committing as laws
+use Rattle.ct_machine_laws.proofs.laws.truncates_commit_well.Goals as goal
+
+pub returns : goal.returns
+returns c = laws.truncates_commit_well
