@@ -1,5 +1,5 @@
-//! The trees: a program that reads many short texts of the language and writes what each comes to, its tokens, its tree or what
-//! it is bound to, so that these are tested by data, which costs no proof.
+//! The trees: a program that reads many short texts of the language and writes what each comes to, its tokens or its tree, so that
+//! these are tested by data, which costs no proof.
 //!
 //! Standard input is UTF-8 text in lines. A line that begins with one of these words and a blank is a row, and what stands behind
 //! the blank is its text; every other line is for the reader.
@@ -8,8 +8,6 @@
 //! |---|---|
 //! | `tokens` | its tokens, each with its kind, its first byte and its end, or `none`; `wrong at N` where it has none for a fault at N |
 //! | `tree` | the tree of the statement, or its refusal |
-//! | `bound` | what the statement is bound to, or its refusal, over the tables and variables of `tables.rt`, while tracking is on |
-//! | `off` | the same while tracking is off |
 //!
 //! In a text `¶` stands for LF and `←` for CR.
 //!
@@ -20,11 +18,8 @@
 //! The program ends with 0, but with 1 where the input is no UTF-8, or memory was wanting.
 #![tactic(auto)]
 
-mod binding;
 mod reading;
-mod tables;
 
-use crate::binding::{ON, write_bound};
 use crate::reading::{write_tokens, write_tree};
 use ct_faults::{Sink, StdSink, StdSource, read_all, write_all};
 use ct_types::{Bin, Memory};
@@ -46,18 +41,17 @@ fn unmarked(alloc: Global, marked: &str) -> Result<String, Memory> {
 
 /// Writes what the text of a row comes to.
 fn write_answer<K: Sink>(alloc: Global, word: &str, text: &str, out: &mut K) -> Result<(), Memory> {
-    match word {
-        "tokens" => write_tokens(alloc, text, out),
-        "tree" => write_tree(alloc, text, out),
-        "bound" => write_bound(alloc, ON, text, out),
-        _ => write_bound(alloc, None, text, out),
+    if word == "tokens" {
+        write_tokens(alloc, text, out)
+    } else {
+        write_tree(alloc, text, out)
     }
 }
 
 /// Writes a row and what its text comes to; nothing for a line that is no row.
 fn write_row<K: Sink>(alloc: Global, line: &str, out: &mut K) -> Result<(), Memory> {
     let (word, marked) = line.split_once(' ').unwrap_or(("", ""));
-    if !matches!(word, "tokens" | "tree" | "bound" | "off") {
+    if word != "tokens" && word != "tree" {
         return Ok(());
     }
     let text = unmarked(alloc, marked)?;

@@ -29,15 +29,16 @@ pub(crate) fn read(alloc: Global, text: &str) -> Result<Stmt, Refusal> {
     }
 }
 
-/// Writes the line of a refusal.
-pub(crate) fn write_refusal<K: Sink>(
-    alloc: Global,
-    refusal: &Refusal,
-    out: &mut K,
-) -> Result<(), Memory> {
-    let line = format!(in alloc; "  {refusal:?}\n")?;
-    let _ = write_all(out, line.as_bytes());
-    Ok(())
+/// Writes a line of two blanks and this text.
+pub(crate) fn write_line<K: Sink>(text: &str, out: &mut K) {
+    let _ = write_all(out, b"  ");
+    let _ = write_all(out, text.as_bytes());
+    let _ = write_all(out, b"\n");
+}
+
+/// A refusal in the form of `Debug`.
+pub(crate) fn shown_refusal(alloc: Global, refusal: &Refusal) -> Result<String, Memory> {
+    Ok(format!(in alloc; "{refusal:?}")?)
 }
 
 // ---- tokens
@@ -85,6 +86,10 @@ pub(crate) fn write_tokens<K: Sink>(alloc: Global, text: &str, out: &mut K) -> R
 
 // ---- trees
 
+fn is_statement(alloc: Global, text: &str) -> bool {
+    read(alloc, text).is_ok()
+}
+
 /// Whether a text is a statement, or faults at its end.
 fn goes_on(alloc: Global, text: &str) -> bool {
     match read(alloc, text) {
@@ -123,20 +128,33 @@ fn write_ends<K: Sink>(
     Ok(())
 }
 
-/// Writes the lines of a statement, whose text this is.
-fn write_stmt<K: Sink>(alloc: Global, text: &str, stmt: &Stmt, out: &mut K) -> Result<(), Memory> {
-    let line = format!(in alloc; "  {stmt:?}\n")?;
-    let _ = write_all(out, line.as_bytes());
+fn tree_of(alloc: Global, stmt: &Stmt) -> Result<String, Memory> {
+    Ok(format!(in alloc; "{stmt:?}")?)
+}
+
+/// The tree of a text, or its refusal.
+fn answer_of(alloc: Global, text: &str) -> Result<String, Memory> {
+    match read(alloc, text) {
+        Ok(stmt) => tree_of(alloc, &stmt),
+        Err(refusal) => shown_refusal(alloc, &refusal),
+    }
+}
+
+/// Writes the lines of the ends at which a text goes on wrongly.
+fn write_wrong_ends<K: Sink>(alloc: Global, text: &str, out: &mut K) -> Result<(), Memory> {
     match cut(alloc, text) {
         Ok(found) => write_ends(alloc, text, found.as_slice(), out),
-        Err(_) => Err(Memory),
+        Err(LexError::Syntax(_)) => Ok(()),
+        Err(LexError::Memory) => Err(Memory),
     }
 }
 
 /// Writes what a row of trees comes to.
 pub(crate) fn write_tree<K: Sink>(alloc: Global, text: &str, out: &mut K) -> Result<(), Memory> {
-    match read(alloc, text) {
-        Ok(stmt) => write_stmt(alloc, text, &stmt, out),
-        Err(refusal) => write_refusal(alloc, &refusal, out),
+    let answer = answer_of(alloc, text)?;
+    write_line(answer.as_str(), out);
+    if is_statement(alloc, text) {
+        write_wrong_ends(alloc, text, out)?;
     }
+    Ok(())
 }
