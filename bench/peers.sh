@@ -2,14 +2,14 @@
 # The same statements in `ct run` and in the sqlite3 shell in memory, whose triggers record each change into a side table: N INSERTs, N UPDATEs by key and
 # N/3 DELETEs by key, in scattered order, each statement a transaction of its own. Then how the time of a query of net changes and of the join of a table with
 # them grows with the table, and the memory by row. Each figure is the least of several runs, side by side in one run; ratios stand beside them.
-# It proves the program first (or takes what earlier runs kept), and measures what LLVM built.
+# It proves the program first (or takes what earlier runs kept), and measures what LLVM built; or it measures the program that CT_PROGRAM names.
 set -e
 top=$(cd "$(dirname "$0")/.." && pwd)
-(cd "$top/crates/ct_main" && rt run >/dev/null)
+[ -n "$CT_PROGRAM" ] || (cd "$top/crates/ct_main" && rt run >/dev/null)
 work=$(mktemp -d)
 trap 'rm -rf "$work"' EXIT
 echo "commit $(git -C "$top" rev-parse --short HEAD), $(date -u +%Y-%m-%d), $(nproc) processors, $(sed -n 's/^model name[^:]*: //p' /proc/cpuinfo | head -1), sqlite3 $(sqlite3 --version | cut -d' ' -f1)"
-python3 - "$top/crates/ct_main/out/ct_main" "$work" "${1:-5}" <<'PYTHON'
+python3 - "${CT_PROGRAM:-$top/crates/ct_main/out/ct_main}" "$work" "${1:-5}" <<'PYTHON'
 import os, resource, subprocess, sys, time
 
 program, work, runs = sys.argv[1], sys.argv[2], int(sys.argv[3])
