@@ -1,33 +1,15 @@
 -- What an append makes of a log, call by call.
 use Rattle.std.proofs.Common.{◌≡◌, inl, inr, ℕ, ◌+◌, ◌-◌, ◌<◌, ◌≤◌, List, [], ◌∷◌, ◌++◌, length, get_or, take, drop, sym, ◌∙◌, ap, arith, append_assoc, length-append, take-append-drop}
 use Rattle.std.proofs.lemmas.Bool.{cases_eq}
-use Rattle.std.proofs.lemmas.List.{take_at, drop_at, drop_more}
+use Rattle.std.proofs.lemmas.List.{take_at}
 use Rattle.byteorder.specs.Endian.{little_bytes}
 use Rattle.ct_types.proofs.Lists.{all_append}
 use Rattle.ct_faults.specs.Disk.{Image, Changes, IsWritten, MayTear, Runs, LeavesOnly}
 use Rattle.ct_faults.proofs.Moments.{Runs-then, Runs-wider}
 use Rattle.ct_log.specs.Log.{HasRecord, records_of, IsLog}
 use Rattle.ct_log.specs.Append.{payload_in, IsFrame, AllAreLogs, IsAppended, MayAppend}
+use Rattle.ct_log.proofs.Pieces.{torn_byte, written_byte}
 use Rattle.ct_log.proofs.Records.{records_of-push, length-records_of-push}
-
--- ---- one byte of a list
-
--- a write of one byte may leave any byte in its place
-torn_byte : (front behind : List ℕ) (byte at : ℕ) (old new : List ℕ) → length front ≡ at → old ≡ front ++ byte ∷ behind → MayTear at 1 old new → new ≡ front ++ get_or new at 0 ∷ behind
-torn_byte front behind byte at old new size is torn =
-    let long : length old ≡ at + 1 + length behind = omega (arith, ap length is, length-append front (byte ∷ behind)) in
-    let here : at < length new = omega (arith, torn.shortest) in
-    let first : take at new ≡ front = torn.before at (omega arith) (omega arith) ∙ ap (λ l. take at l) is ∙ take_at front (byte ∷ behind) at size in
-    let last : drop (at + 1) new ≡ behind =
-    (torn.behind ∙ ap (λ l. drop (at + 1) l) (is ∙ sym (append_assoc front (byte ∷ []) behind)) ∙ drop_at (front ++ byte ∷ []) behind (at + 1) (omega (arith, length-append front (byte ∷ [])))) in
-    sym (take-append-drop at new) ∙ (λ i. first i ++ drop at new) ∙ ap (λ l. front ++ l) (drop_more new at 0 here ∙ ap (λ l. get_or new at 0 ∷ l) last)
-
-written_byte : (front behind : List ℕ) (byte other at : ℕ) (old new : List ℕ) → length front ≡ at → old ≡ front ++ byte ∷ behind → IsWritten at (other ∷ []) old new → new ≡ front ++ other ∷ behind
-written_byte front behind byte other at old new size is written =
-    let first : take at old ≡ front = ap (λ l. take at l) is ∙ take_at front (byte ∷ behind) at size in
-    let last : drop (at + 1) old ≡ behind =
-    (ap (λ l. drop (at + 1) l) (is ∙ sym (append_assoc front (byte ∷ []) behind)) ∙ drop_at (front ++ byte ∷ []) behind (at + 1) (omega (arith, length-append front (byte ∷ [])))) in
-    written ∙ (λ i. first i ++ other ∷ [] ++ last i) ∙ append_assoc front (other ∷ []) behind
 
 -- ---- the area of a log
 
@@ -114,7 +96,7 @@ module _ (area : ℕ) (payloads : List (List ℕ)) (used : ℕ) (body : List ℕ
         here =
             let is : near area ≡ records_of payloads ++ log.gate ∷ (body ++ drop (used + length body) (first area)) = ap (λ (i : Image). i area) (only near left) ∙ staged in
             staged_log payloads used body (get_or (image area) (used - 1) 0) (drop (used + length body) (first area)) (old area) (image area) (all.log old was) frame
-            (torn_byte (records_of payloads) (body ++ drop (used + length body) (first area)) log.gate (used - 1) (near area) (image area) front_long is tear.here);
+            (torn_byte (records_of payloads) (body ++ drop (used + length body) (first area)) (used - 1) front_long log.gate (near area) (image area) is tear.here);
         elsewhere = λ other ne. tear.elsewhere other ne ∙ step.elsewhere other ne;
       })
 
@@ -122,6 +104,6 @@ module _ (area : ℕ) (payloads : List (List ℕ)) (used : ℕ) (body : List ℕ
   pub appended : (third : Image) → Changes area (IsWritten (used - 1) (1 ∷ [])) second third → Changes area (IsAppended payloads used body) first third
   appended third opens = record {
     here = opened payloads used body (drop (used + length body) (first area)) (first area) (third area) log frame
-        (written_byte (records_of payloads) (body ++ drop (used + length body) (first area)) log.gate 1 (used - 1) (second area) (third area) front_long staged opens.here);
+        (written_byte (records_of payloads) (body ++ drop (used + length body) (first area)) (used - 1) front_long log.gate 1 (second area) (third area) staged opens.here);
     elsewhere = λ other ne. opens.elsewhere other ne ∙ wrote.elsewhere other ne;
   }

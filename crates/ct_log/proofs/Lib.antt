@@ -3,4 +3,5 @@ pub mod Filling
 pub mod Frames
 pub mod Gates
 pub mod OneReading
+pub mod Pieces
 pub mod Records

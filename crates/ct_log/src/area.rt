@@ -33,12 +33,13 @@ pub fn write_synced<D: Disk>(disk: &mut D, area: u8, at: u64, bytes: &[u8]) -> R
 }
 
 /// Reads the area from its front into the buffer, until the buffer is full or a read gives nothing, and says how many bytes
-/// it has. Of an honest disk's area of this length it has all.
-fn fill<D: Disk>(disk: &mut D, area: u8, buf: &mut [u8]) -> Result<usize, Failed>
-    requires area { area < 6 }
-    requires len { D.honest disk.old → length buf.old ≡ length (D.content disk.old area) }
+/// it has. Of an honest disk's area it has so many of the first bytes as there are and as fit.
+///
+/// `Failed` comes only where the disk's count of faults rose; the buffer may then hold anything.
+pub fn read_front<D: Disk>(disk: &mut D, area: u8, buf: &mut [u8]) -> Result<usize, Failed>
+    requires { area < 6 }
     ensures bound { IfOk result (λ n. n ≤ length buf.new) }
-    ensures gives { D.honest disk.old → IfOk result (λ n. take n buf.new ≡ D.content disk.old area) }
+    ensures gives { D.honest disk.old → IfOk result (λ n. take n buf.new ≡ take (length buf.old) (D.content disk.old area)) }
     ensures honest { D.honest disk.old ↔ D.honest disk.new }
     ensures content { D.honest disk.old → D.content disk.new ≡ D.content disk.old }
     ensures images { D.honest disk.old → Runs (D.clock disk.old) (D.clock disk.new) (D.images disk.old) (D.images disk.new) Same }
@@ -72,7 +73,7 @@ pub fn read_area<D: Disk>(alloc: Global, disk: &mut D, area: u8) -> Result<Bin, 
 {
     let len = disk.len(area)? as usize;
     let mut bytes = vec![in alloc; 0; len]?;
-    let filled = fill(disk, area, &mut bytes)?;
+    let filled = read_front(disk, area, &mut bytes)?;
     bytes.truncate(filled);
     Ok(Bin::from_vec(bytes))
 }

@@ -13,7 +13,7 @@ mod law;
 mod log;
 mod reading;
 
-pub use area::{read_area, write_synced};
+pub use area::{read_area, read_front, write_synced};
 pub use fault::{LogError, OpenFault};
 pub use framing::frame;
 pub use law::{logs_do_not_break, one_break, one_log};

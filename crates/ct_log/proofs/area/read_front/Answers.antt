@@ -3,7 +3,7 @@ use Rattle.std.proofs.lemmas.Grind.{common_steps}
 use Rattle.ct_faults.specs.Disk.{Image}
 use Rattle.ct_faults.proofs.Moments.{Runs-same}
 use Rattle.ct_log.proofs.Filling.{filled_more}
-use Rattle.ct_log.proofs.area.fill.Goals as goal
+use Rattle.ct_log.proofs.area.read_front.Goals as goal
 
 pub loop-filled-preserved : goal.loop-filled-preserved
 loop-filled-preserved g c =
@@ -11,6 +11,9 @@ loop-filled-preserved g c =
     let so_far = c.loop-filled.invariant in
     record {
       within = first_of (search rules, grind (arith, common_steps));
+      within_area = λ h.
+          let gives = c.in_ok-count.ensures.gives (so_far.honest.0 h) in
+          omega (arith, gives.within, ap (λ (i : Image). length (i c.args.area)) (so_far.content h));
       bytes = λ h.
           let gives = c.in_ok-count.ensures.gives (so_far.honest.0 h) in
           filled_more c.loop-filled.buf c.read_at.new.buf (D.content c.args.disk.now c.args.area) c.loop-filled.filled (length c.loop-filled.buf - c.loop-filled.filled) c.in_ok-count.count so_far.within (so_far.bytes h) c.in_ok-count.ensures.bound.0

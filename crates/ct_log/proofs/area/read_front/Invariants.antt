@@ -1,12 +1,13 @@
 use Rattle.std.proofs.Common.{◌≡◌, ◌≤◌, ◌-◌, ◌↔◌, length, take}
 use Rattle.ct_faults.specs.Disk.{Runs, Same, TakesRoom}
-use Rattle.ct_log.proofs.area.fill.Given as goal
+use Rattle.ct_log.proofs.area.read_front.Given as goal
 
 abbrev pub invariant-loop-filled : goal.invariant-loop-filled
 invariant-loop-filled g l =
     let D = g.D.Disk in
     record {
       within : l.filled ≤ length l.buf;
+      within_area : D.honest l.fn.disk → l.filled ≤ length (D.content l.fn.disk l.area);
       bytes : D.honest l.fn.disk → take l.filled l.buf ≡ take l.filled (D.content l.fn.disk l.area);
       honest : D.honest l.fn.disk ↔ D.honest l.disk;
       content : D.honest l.fn.disk → D.content l.disk ≡ D.content l.fn.disk;

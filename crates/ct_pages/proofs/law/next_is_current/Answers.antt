@@ -1,0 +1,5 @@
+use Rattle.ct_pages.proofs.Turning as lemma
+use Rattle.ct_pages.proofs.law.next_is_current.Goals as goal
+
+pub returns : goal.returns
+returns c = lemma.next_is_current
