@@ -230,6 +230,32 @@ open_gate bytes size e = drop_more bytes 0 0 (omega (arith, size)) ∙ ap (λ g.
 
 -- ---- what was read of an area
 
+-- where no slot is current, both are closed
+none_open : (zero one : Option Super) → current_of zero one ≡ None → (zero ≡ None) × (one ≡ None)
+none_open None None e = (refl, refl)
+none_open None (Some b) e = absurd (cc e)
+none_open (Some a) None e = absurd (cc e)
+none_open (Some a) (Some b) e = absurd (either (eqb a.turn ((b.turn + 1) % 4)) e)
+  where
+    either : (t : Bool) → cond {A = Option Super} t (Some a) (Some b) ≡ None → ⊥
+    either true is = cc is
+    either false is = cc is
+
+module _ (bytes : List ℕ) (zero one : Option Super) (marked : IsMarked bytes) (says_zero : Says 0 (slot_at 0 bytes) zero) (says_one : Says 1 (slot_at 1 bytes) one) where
+  reads_either : (answer : Option Super) → current_of zero one ≡ answer → Reads bytes (Ok answer)
+  reads_either (Some slot) is = record { marked = marked; zero = zero; one = one; says_zero = says_zero; says_one = says_one; current = is }
+  reads_either None is =
+      let none = none_open zero one is in
+      inr (record {
+        marked = marked;
+        zero = subst (λ said. Says 0 (slot_at 0 bytes) said) none.0 says_zero;
+        one = subst (λ said. Says 1 (slot_at 1 bytes) said) none.1 says_one;
+      })
+
+  -- mark and slots tell the current slot, or that there is none
+  pub reads_head : (answer : Option Super) → answer ≡ current_of zero one → Reads bytes (Ok answer)
+  reads_head answer is = reads_either answer (sym is)
+
 -- an area of which fewer bytes than mark and slots could be read is short
 pub read_short : (buf area : List ℕ) (n : ℕ) → n ≤ length buf → take n buf ≡ take 40 area → n < 40 → length area < 40
 read_short buf area n within is few = omega (arith, few, within, ap length is, length-take n buf, length-take 40 area)

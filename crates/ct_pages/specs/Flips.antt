@@ -1,7 +1,8 @@
 -- How another slot becomes the current one, and what a crash may leave of that. This project's own.
 --
 -- A flip writes the slot that is not current. Where its gate is open, it is closed and synced first. Then the bytes behind
--- the gate are written and synced, and only then the gate is opened. So at each moment the old slot is current or the new.
+-- the gate are written and synced, and only then the gate is opened. So at each moment the old slot is current or the
+-- new.
 use Rattle.std.specs.Prelude.{◌≡◌, ◌⊎◌, ℕ, ◌+◌, List, ◌++◌, length, take, drop}
 use Rattle.ct_faults.specs.Disk.{Image}
 use Rattle.ct_log.specs.Reading.{IsOpen}

@@ -1,8 +1,9 @@
 -- How an unfinished disk is finished, and what a crash may leave of that. This project's own.
 --
--- Mark and slots are laid out in area 0, as zeros behind the mark, its last byte by a write of its own, so that the area
--- is unfinished while it is torn. Area 3 is made an empty log. Then slot 0 is written behind its closed gate, which is
--- opened last. Each of these writes is synced before the next. So at each moment area 0 is unfinished, or names that slot and the log is empty.
+-- Mark and slots are laid out in area 0, as zeros behind the mark. The last byte has a write of its own, so that the area is
+-- unfinished while it is torn. Area 3 is made an empty log. Then slot 0 is written behind its closed gate, which is opened
+-- last. Each of these writes is synced before the next. So at each moment area 0 is unfinished, or it names that slot and
+-- the log is empty.
 use Rattle.std.specs.Prelude.{◌≡◌, ◌⊎◌, ◌++◌, ℕ, List, [], ◌∷◌, replicate}
 use Rattle.ct_faults.specs.Disk.{Image}
 use Rattle.ct_pages.specs.declared.slot.Super.{Super}

@@ -6,8 +6,8 @@ use Rattle.ct_log.specs.declared.fault.OpenFault.TheVariants.{Foreign, DiskFault
 use Rattle.ct_pages.specs.declared.slot.Super.{Super}
 use Rattle.ct_pages.specs.Slots.{IsForeignSlot, Says, offset_of, IsUnfinished, Names, IsForeignAt}
 
--- the answer, by the bytes of area 0: the current slot, or nothing where the area is unfinished, or where it is foreign. A
--- fault of the disk tells nothing of bytes, and memory is never wanting
+-- the answer, by the bytes of area 0: the current slot, or nothing where the area is unfinished, or the offset where it is
+-- foreign. A fault of the disk tells nothing of bytes, and memory is never wanting
 abbrev pub Reads : List ℕ → Result (Option Super) OpenFault → Type 0
 Reads bytes (Ok None) = IsUnfinished bytes
 Reads bytes (Ok (Some slot)) = Names bytes slot

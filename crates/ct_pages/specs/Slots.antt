@@ -22,8 +22,8 @@ IsSecondLog first second = (second ≡ 0) ⊎ (IsLogArea second × (second ≢ f
 abbrev pub IsCheckpointArea : ℕ → ℕ → Type 0
 IsCheckpointArea area size = (area ≤ 2) × ((size ≡ 0) ↔ (area ≡ 0))
 
--- what a slot may say: format 1; a turn below 4; a checkpoint in its area, or none, with a length that fits eight bytes; a
--- first log; a second log in another area, or none
+-- what a slot may say: format 1; a turn below 4; the area of a checkpoint, or none, and its length, which fits eight bytes;
+-- the area of a first log; that of a second log, or none
 pub record IsCanonical (slot : Super) : Type 0 where
   pub format : slot.format ≡ 1
   pub turn : slot.turn < 4
@@ -82,7 +82,8 @@ pub record IsMarked (bytes : List ℕ) : Type 0 where
   pub long : 40 ≤ length bytes
   pub marked : take 8 bytes ≡ mark
 
--- area 0 names a slot: it has its mark, each of its slots says something or nothing, and of these this is the current one
+-- area 0 names a slot: it has its mark, each of its two slots is closed or says what may stand there, and of what they say
+-- this is current
 pub record Names (bytes : List ℕ) (slot : Super) : Type 0 where
   pub marked : IsMarked bytes
   pub zero : Option Super

@@ -27,7 +27,7 @@ fn read_head(bytes: &[u8]) -> Result<Option<Super>, OpenFault>
         return Err(OpenFault::Foreign { area: 0, offset: 0 });
     }
     let zero = read_slot(0, &bytes[8..24])?;
-    let one = read_slot(1, &bytes[24..])?;
+    let one = read_slot(1, &bytes[24..40])?;
     Ok(current(zero, one))
 }
 

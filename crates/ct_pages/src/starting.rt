@@ -1,4 +1,4 @@
-ghost use Rattle.std.specs.Prelude.{◌≡◌, ◌<◌, ◌≤◌, ◌+◌, ◌^◌, ◌↔◌, length, OnOk};
+ghost use Rattle.std.specs.Prelude.{◌<◌, ◌≤◌, ◌+◌, ◌^◌, ◌↔◌, length, OnOk};
 ghost use Rattle.ct_faults.specs.Causes.{HasCause};
 ghost use Rattle.ct_faults.specs.Disk.{Changes, IsWritten, MayTear, Runs, LeavesOnly, TakesRoom};
 ghost use Rattle.ct_log.specs.Append.{TakesAtMost};
