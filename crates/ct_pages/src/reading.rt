@@ -1,4 +1,6 @@
-ghost use Rattle.std.specs.Prelude.{◌≡◌, ◌≤◌, ◌↔◌, length, IsErrOf};
+ghost use Rattle.std.specs.Prelude.{◌≡◌, ◌≤◌, ◌↔◌, length, IfOk, IsErrOf};
+ghost use Rattle.std.specs.Option.{ForSome};
+ghost use Rattle.ct_pages.specs.Slots.{IsCanonical};
 ghost use Rattle.ct_faults.specs.Causes.{Rose};
 ghost use Rattle.ct_faults.specs.Disk.{Same, Runs, TakesRoom};
 ghost use Rattle.ct_pages.specs.Reading.{Reads};
@@ -32,13 +34,14 @@ fn read_head(bytes: &[u8]) -> Result<Option<Super>, OpenFault>
 }
 
 /// Reads the current slot of a disk: that which names the areas of its database. It is none where the disk is unfinished.
-/// Nothing is told of a disk that is not honest.
+/// Nothing but that it may stand there is told of the slot of a disk that is not honest.
 ///
 /// `Foreign` has area 0, and comes exactly where this has 40 bytes or more and its first 8 are not the mark (at offset 0);
 /// else where slot 0 is open and may not stand there (at offset 8); else where slot 1 is (at offset 24). `DiskFault` comes
 /// only where the disk's count of faults rose. The answer is never `Memory`.
 pub fn read_current<D: Disk>(disk: &mut D) -> Result<Option<Super>, OpenFault>
     ensures reads { D.honest disk.old → Reads (D.content disk.old 0) result }
+    ensures canonical { IfOk result (λ said. ForSome said IsCanonical) }
     ensures honest { D.honest disk.old ↔ D.honest disk.new }
     ensures content { D.honest disk.old → D.content disk.new ≡ D.content disk.old }
     ensures images { D.honest disk.old → Runs (D.clock disk.old) (D.clock disk.new) (D.images disk.old) (D.images disk.new) Same }

@@ -1,0 +1,6 @@
+pub mod Apart
+pub mod Faults
+pub mod Gathering
+pub mod Meeting
+pub mod Once
+pub mod Stays

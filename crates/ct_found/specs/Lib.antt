@@ -1,0 +1,6 @@
+pub mod Checkpoint
+pub mod Foreign
+pub mod Found
+pub mod Gathered
+pub mod Laws
+pub mod Pieces
