@@ -1,6 +1,9 @@
 pub mod Narrow
+pub mod Naming
 pub mod Ranges
 pub mod Rows
+pub mod Seating
+pub mod Standing
 pub mod Storing
-pub mod Told
+pub mod Unblocked
 pub mod Worlds

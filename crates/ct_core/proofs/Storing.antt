@@ -1,8 +1,7 @@
 -- What statements commit is what the database in memory can store.
-use Rattle.std.proofs.Common.{◌≡◌, ◌≢◌, ℕ, ◌+◌, ◌==◌, ◌<◌, ◌≤◌, Bool, true, false, cond, List, [], ◌∷◌, map, find, Option, None, Some, IfSome, Result, Ok, Err, IfOk, MatchBool, if◌then◌else◌, refl, sym, ap, subst, ◌∙◌, arith}
+use Rattle.std.proofs.Common.{◌≡◌, ◌≢◌, ℕ, ◌+◌, ◌==◌, ◌<◌, ◌≤◌, Bool, true, false, cond, List, [], ◌∷◌, map, Option, None, Some, IfSome, Result, Ok, Err, IfOk, MatchBool, if◌then◌else◌, refl, sym, ap, subst, ◌∙◌, arith}
 use Rattle.std.specs.List.{AllByRecursion}
 use Rattle.std.proofs.lemmas.Bool.Decides.{nat_tests}
-use Rattle.std.specs.Option.{option_map}
 use Rattle.ct_types.specs.Answers.{Gives}
 use Rattle.ct_types.specs.declared.bound.Bound.{Bound}
 use Rattle.ct_types.specs.declared.bound.Bound.TheVariants.{Write as write_bound}
@@ -11,6 +10,7 @@ use Rattle.ct_types.specs.declared.bound.BoundWrite.{BoundWrite}
 use Rattle.ct_types.specs.declared.bound.RowChange.{RowChange}
 use Rattle.ct_types.specs.declared.bound.RowChange.TheVariants.{Insert, Update, Delete}
 use Rattle.ct_types.specs.declared.catalogue.Catalogued.{Catalogued}
+use Rattle.ct_types.specs.declared.catalogue.Variable.{Variable}
 use Rattle.ct_types.specs.declared.entry.Act.{Act}
 use Rattle.ct_types.specs.declared.entry.Entry.{Entry}
 use Rattle.ct_types.specs.declared.entry.Write.{Write}
@@ -33,6 +33,7 @@ use Rattle.ct_database.specs.Storable.{IsActStorable, IsStorable, IsWriteStorabl
 use Rattle.ct_expr.specs.Meaning.{World}
 use Rattle.ct_machine.specs.Reads.{catalogue}
 use Rattle.ct_machine.specs.Step.{act_draws, entry_of}
+use Rattle.ct_session.specs.Sessions.{fresh}
 use Rattle.ct_source.specs.Rows.{IsRowOf}
 use Rattle.ct_write.specs.Writes.{Context, SparesKey, write_of, writes_of}
 use Rattle.ct_write.proofs.Parts.{parts_of}
@@ -42,9 +43,10 @@ use Rattle.ct_core.proofs.Ranges.{machine_at}
 -- ---- what is bound
 
 -- what a statement of a core is bound to is stored well
-pub stores_if : (db : Db) (statement : Stmt) (result : Result Bound Refusal) → HasTables db → Gives (binding (catalogue db) db.keep [] statement) result → IfOk result (StoresWell (catalogue db))
-stores_if db statement (Err refusal) has gives = tt
-stores_if db statement (Ok it) has gives = bound_store_well (catalogue db) db.keep [] statement it (ids_distinct db.tables 1 has.numbered) gives
+pub stores_if : (db : Db) (variables : List Variable) (statement : Stmt) (result : Result Bound Refusal)
+    → HasTables db → Gives (binding (catalogue db) db.keep variables statement) result → IfOk result (StoresWell (catalogue db))
+stores_if db variables statement (Err refusal) has gives = tt
+stores_if db variables statement (Ok it) has gives = bound_store_well (catalogue db) db.keep variables statement it (ids_distinct db.tables 1 has.numbered) gives
 
 -- ---- keys that are spared
 
@@ -121,5 +123,5 @@ drawn true version = omega arith
 drawn false version = omega arith
 
 -- the entry of a storable act is storable
-pub entry_storable : (db : Db) (now next : ℕ) (act : Act) (entry : Entry) → IsActStorable db.tables act → entry ≡ entry_of (machine_at db now next) act → IsStorable db entry
+pub entry_storable : (db : Db) (now next : ℕ) (act : Act) (entry : Entry) → IsActStorable db.tables act → entry ≡ entry_of (machine_at db now next) fresh act → IsStorable db entry
 entry_storable db now next act entry storable is = subst (IsStorable db) (sym is) (record { act = storable; version = drawn (act_draws db act) db.version })

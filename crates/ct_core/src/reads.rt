@@ -1,13 +1,16 @@
-ghost use Rattle.std.specs.Prelude.{◌≡◌, [], map, IfOk};
+ghost use Rattle.std.specs.Prelude.{◌≡◌, map, IfOk};
 ghost use Rattle.ct_types.specs.Answers.{Gives, each};
 ghost use Rattle.ct_types.specs.declared.bound.BoundSource.TheVariants as source;
 ghost use Rattle.ct_types.specs.declared.bound.Join.TheVariants as join;
+ghost use Rattle.ct_expr.specs.Meaning.{on, value as value_on};
 ghost use Rattle.ct_machine.specs.Reads as spec;
 ghost use Rattle.ct_model.specs.Net.{net as net_changes};
 ghost use Rattle.ct_model.specs.Tables.{table_of};
 ghost use Rattle.ct_source.specs.Sources.{source_rows};
 ghost use Rattle.ct_model.specs.Versions.{current as current_version};
+ghost use Rattle.ct_write.specs.Rows.{no_row};
 ghost use Rattle.ct_core.specs.Rows as steps;
+ghost use Rattle.ct_core.specs.Seeing.{IsEnvOf, seen_with};
 
 use crate::changes::show_changes;
 use crate::system::{commit_rows, tracking_rows};
@@ -31,10 +34,10 @@ fn current(db: &Database) -> Option<u64>
     }
 }
 
-/// What expressions may ask for beside their row, where there are no variables. It is lent, and nothing is copied.
+/// What expressions may ask for beside their row. It is lent, and nothing is copied.
 pub(crate) fn env<'a>(db: &'a Database, variables: &'a Variables) -> Env<'a>
-    requires { variables.now ≡ record { 0 = [] } }
-    ensures { result ≡ spec.env_of db.now }
+    ensures is { IsEnvOf db.now result }
+    ensures variables { result.variables ≡ variables.now }
 {
     Env {
         variables,
@@ -66,6 +69,20 @@ fn changes_since(
     show_changes(alloc, changes.as_slice())
 }
 
+/// The value of an expression that names no column.
+pub(crate) fn value_of(
+    alloc: Global,
+    db: &Database,
+    env: &Env<'_>,
+    expr: &BoundExpr,
+) -> Result<Value, Refusal>
+    requires { IsEnvOf db.now env.now }
+    ensures { Gives (value_on (on (spec.world_of (seen_with db.now env.now)) no_row) expr.now) result }
+{
+    let row = Row(List::new(alloc));
+    eval(alloc, expr, &row, env, &LastVersions { db })
+}
+
 fn changes_rows(
     alloc: Global,
     db: &Database,
@@ -73,11 +90,10 @@ fn changes_rows(
     table: u32,
     last: &BoundExpr,
 ) -> Result<List<Row>, Refusal>
-    requires { env.now ≡ spec.env_of db.now }
-    ensures { Gives (spec.changes_rows db.now table last.now) result }
+    requires { IsEnvOf db.now env.now }
+    ensures { Gives (spec.changes_rows (seen_with db.now env.now) table last.now) result }
 {
-    let row = Row(List::new(alloc));
-    let last = eval(alloc, last, &row, env, &LastVersions { db })?;
+    let last = value_of(alloc, db, env, last)?;
     Ok(changes_since(alloc, db, table, &last)?)
 }
 
@@ -88,8 +104,8 @@ fn version_rows(
     env: &Env<'_>,
     version: &BoundRowVersion,
 ) -> Result<List<Row>, Refusal>
-    requires { env.now ≡ spec.env_of db.now }
-    ensures { Gives (spec.source_rows db.now (source.Version version.now)) result }
+    requires { IsEnvOf db.now env.now }
+    ensures { Gives (spec.source_rows (seen_with db.now env.now) (source.Version version.now)) result }
 {
     let none = Row(List::new(alloc));
     let mut made = List::new(alloc);
@@ -104,14 +120,14 @@ fn made_rows(
     env: &Env<'_>,
     source: &Option<BoundSource>,
 ) -> Result<List<Row>, Refusal>
-    requires { env.now ≡ spec.env_of db.now }
-    ensures { Gives (steps.made_rows db.now source.now) result }
+    requires { IsEnvOf db.now env.now }
+    ensures { Gives (steps.made_rows (seen_with db.now env.now) source.now) result }
 {
     match source {
         None | Some(BoundSource::Table(_)) => Ok(List::new(alloc)),
         Some(BoundSource::Changes { table, since }) => changes_rows(alloc, db, env, *table, since),
         Some(BoundSource::Version(version)) => version_rows(alloc, db, env, version),
-        Some(BoundSource::CommitTable) => Ok(commit_rows(alloc, db.kept())?),
+        Some(BoundSource::CommitTable) => Ok(commit_rows(alloc, db)?),
         Some(BoundSource::TrackingTables) => Ok(tracking_rows(alloc, db.catalogue())?),
     }
 }
@@ -124,8 +140,8 @@ fn applied_rows(
     version: &BoundRowVersion,
     left: Source<'_>,
 ) -> Result<List<Row>, Refusal>
-    requires { env.now ≡ spec.env_of db.now }
-    ensures { Gives (each (spec.version_on db.now version.now) (source_rows left.entry)) result }
+    requires { IsEnvOf db.now env.now }
+    ensures { Gives (each (spec.version_on (seen_with db.now env.now) version.now) (source_rows left.entry)) result }
 {
     let lefts = left.all(alloc)?;
     versions_on(alloc, db, env, version, lefts.as_slice())
@@ -139,8 +155,8 @@ fn made_apply(
     right: &Option<BoundSource>,
     left: Source<'_>,
 ) -> Result<List<Row>, Refusal>
-    requires { env.now ≡ spec.env_of db.now }
-    ensures { Gives (steps.made_right db.now join.Apply right.now (source_rows left.entry)) result }
+    requires { IsEnvOf db.now env.now }
+    ensures { Gives (steps.made_right (seen_with db.now env.now) join.Apply right.now (source_rows left.entry)) result }
 {
     match right {
         Some(BoundSource::Version(version)) => applied_rows(alloc, db, env, version, left),
@@ -162,8 +178,8 @@ fn made_right(
     query: &BoundSelect,
     left: Source<'_>,
 ) -> Result<List<Row>, Refusal>
-    requires { env.now ≡ spec.env_of db.now }
-    ensures { Gives (steps.made_right db.now query.now.plan.join query.now.right (source_rows left.entry)) result }
+    requires { IsEnvOf db.now env.now }
+    ensures { Gives (steps.made_right (seen_with db.now env.now) query.now.plan.join query.now.right (source_rows left.entry)) result }
 {
     match query.plan.join {
         Join::Apply => made_apply(alloc, db, env, &query.right, left),
@@ -195,14 +211,18 @@ fn chosen_rows<'a>(db: &'a Database, source: &Option<BoundSource>, made: &'a [Ro
 
 /// What a SELECT answers.
 #[tactic(auto, using(crate::proofs::Rows::optional_made, crate::proofs::Rows::right_made))]
-pub(crate) fn selected(alloc: Global, db: &Database, query: &BoundSelect) -> Result<Grid, Refusal>
-    ensures { Gives (spec.selected db.now query.now) result }
+pub(crate) fn selected(
+    alloc: Global,
+    db: &Database,
+    env: &Env<'_>,
+    query: &BoundSelect,
+) -> Result<Grid, Refusal>
+    requires { IsEnvOf db.now env.now }
+    ensures { Gives (spec.selected (seen_with db.now env.now) query.now) result }
 {
-    let variables = Variables(List::new(alloc));
-    let env = env(db, &variables);
-    let lefts = made_rows(alloc, db, &env, &query.left)?;
+    let lefts = made_rows(alloc, db, env, &query.left)?;
     let left = chosen_rows(db, &query.left, lefts.as_slice());
-    let rights = made_right(alloc, db, &env, query, left)?;
+    let rights = made_right(alloc, db, env, query, left)?;
     let right = chosen_rows(db, &query.right, rights.as_slice());
-    select(alloc, &query.plan, left, right, &env, &LastVersions { db })
+    select(alloc, &query.plan, left, right, env, &LastVersions { db })
 }

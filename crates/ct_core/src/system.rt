@@ -2,14 +2,16 @@ ghost use Rattle.std.specs.Prelude.{◌≡◌, ◌++◌, map, IfOk, OnOk};
 ghost use Rattle.std.specs.Option.{option_to_list};
 ghost use Rattle.std.specs.List.{filter_map};
 ghost use Rattle.ct_machine.specs.Reads.{shown_commit, shown_tracking};
+ghost use Rattle.ct_core.specs.Rows.{shown_committed};
 
+use ct_database::{Committed, Database};
 use ct_expr::{counted, one_or_zero};
-use ct_types::{Catalogued, Kept, List, Memory, Row};
+use ct_types::{Catalogued, List, Memory, Row};
 use std::alloc::Global;
 
 /// The row that sys.dm_tran_commit_table shows of a commit.
-fn show_commit(alloc: Global, one: &Kept) -> Result<Row, Memory>
-    ensures { IfOk result (λ made. made ≡ shown_commit one.now) }
+fn show_commit(alloc: Global, one: &Committed) -> Result<Row, Memory>
+    ensures { IfOk result (λ made. made ≡ shown_committed one.now) }
 {
     let mut values = List::new(alloc);
     values.push(counted(one.version))?;
@@ -18,15 +20,24 @@ fn show_commit(alloc: Global, one: &Kept) -> Result<Row, Memory>
     Ok(Row(values))
 }
 
-/// The rows of sys.dm_tran_commit_table.
-pub(crate) fn commit_rows(alloc: Global, kept: &[Kept]) -> Result<List<Row>, Memory>
-    ensures { IfOk result (λ made. made ≡ map shown_commit kept.now) }
+/// The rows that sys.dm_tran_commit_table shows of commits.
+fn show_commits(alloc: Global, kept: &[Committed]) -> Result<List<Row>, Memory>
+    ensures { IfOk result (λ made. made ≡ map shown_committed kept.now) }
 {
     let mut made = List::new(alloc);
     for one in kept {
         made.push(show_commit(alloc, one)?)?;
     }
     Ok(made)
+}
+
+/// The rows of sys.dm_tran_commit_table.
+#[tactic(auto, using(crate::proofs::Rows::told_commits))]
+pub(crate) fn commit_rows(alloc: Global, db: &Database) -> Result<List<Row>, Memory>
+    ensures { IfOk result (λ made. made ≡ map shown_commit db.now.kept) }
+{
+    let kept = db.kept(alloc)?;
+    show_commits(alloc, kept.as_slice())
 }
 
 /// The row that sys.change_tracking_tables shows of a table, if it is tracked.

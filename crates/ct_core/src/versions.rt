@@ -2,6 +2,7 @@ ghost use Rattle.std.specs.Prelude.{◌≡◌, IfOk};
 ghost use Rattle.ct_types.specs.Answers.{Gives, each};
 ghost use Rattle.ct_source.specs.Rows.{lent};
 ghost use Rattle.ct_machine.specs.Reads as spec;
+ghost use Rattle.ct_core.specs.Seeing.{IsEnvOf, seen_with};
 
 use crate::changes::push_all;
 use ct_database::Database;
@@ -44,8 +45,8 @@ pub(crate) fn version_on(
     version: &BoundRowVersion,
     row: &Row,
 ) -> Result<Row, Refusal>
-    requires { env.now ≡ spec.env_of db.now }
-    ensures { Gives (spec.version_on db.now version.now row.now) result }
+    requires { IsEnvOf db.now env.now }
+    ensures { Gives (spec.version_on (seen_with db.now env.now) version.now row.now) result }
 {
     let (key, found) = row_version(alloc, version, row, env, &LastVersions { db })?;
     Ok(show_version(alloc, &key, found)?)
@@ -59,8 +60,8 @@ pub(crate) fn versions_on(
     version: &BoundRowVersion,
     rows: &[&Row],
 ) -> Result<List<Row>, Refusal>
-    requires { env.now ≡ spec.env_of db.now }
-    ensures { Gives (each (spec.version_on db.now version.now) (lent rows.now)) result }
+    requires { IsEnvOf db.now env.now }
+    ensures { Gives (each (spec.version_on (seen_with db.now env.now) version.now) (lent rows.now)) result }
 {
     let mut made = List::new(alloc);
     for row in rows {

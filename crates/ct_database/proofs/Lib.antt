@@ -1,8 +1,13 @@
+pub mod AtVersions
 pub mod Backwards
+pub mod Counted
 pub mod LaterChanges
+pub mod Lasts
 pub mod Listing
+pub mod Notes
+pub mod Needs
 pub mod Numbered
 pub mod Placed
 pub mod Storing
+pub mod Swept
 pub mod Trimmed
-pub mod Versions

@@ -12,14 +12,14 @@ use Rattle.ct_ptree.proofs.Lists.{split_at}
 use Rattle.ct_database.specs.Storable.{IsRowStorable, IsWriteStorable}
 use Rattle.ct_database.proofs.Placed.{set_at}
 
-not_equal : (a b : ℕ) → a ≢ b → eqb a b ≡ false
+pub not_equal : (a b : ℕ) → a ≢ b → eqb a b ≡ false
 not_equal a b other =
     let step : (c : Bool) → c ≡ eqb a b → c ≡ false = elim [ true ↦ (λ e. absurd (other (eqb-true a b (sym e)))) | false ↦ (λ e. refl) ] in
     step (eqb a b) refl
 
 -- ---- no table has the id
 
-no_table : (from id : ℕ) (tables : List Table) → AreNumbered from tables → (id < from) ⊎ (from + length tables ≤ id) → AllByRecursion (λ table. table.schema.id ≢ id) tables
+pub no_table : (from id : ℕ) (tables : List Table) → AreNumbered from tables → (id < from) ⊎ (from + length tables ≤ id) → AllByRecursion (λ table. table.schema.id ≢ id) tables
 no_table from id [] numbered out = tt
 no_table from id (table ∷ tables) numbered out =
     let other : table.schema.id ≢ id = (λ e. elim out [ inl low ↦ absurd (let is : from ≡ id = sym numbered.0 ∙ e in omega arith) | inr high ↦ absurd (let is : from ≡ id = sym numbered.0 ∙ e in omega arith) ]) in

@@ -10,16 +10,18 @@ use Rattle.ct_types.specs.declared.schema.Column.{Column}
 use Rattle.ct_types.specs.declared.schema.Schema.{Schema}
 use Rattle.ct_types.specs.declared.entry.Op.{Op}
 use Rattle.ct_types.specs.declared.entry.Op.TheVariants.{Insert, Update, Delete}
+use Rattle.ct_types.specs.declared.tracked.Tracked.{Tracked}
+use Rattle.ct_types.specs.declared.entry.Min.{Min}
 use Rattle.ct_types.specs.declared.entry.Write.{Write}
 use Rattle.ct_types.specs.declared.entry.Act.{Act}
 use Rattle.ct_types.specs.declared.entry.Act.TheVariants.{Commit, Define, Truncate, Enable, Disable, Database, Raise}
 use Rattle.ct_model.specs.declared.db.Table.{Table}
 use Rattle.ct_model.specs.declared.db.Db.{Db}
-use Rattle.ct_model.specs.Applies.{ActApplies, WritesApply, WriteFits, RowIsOf}
+use Rattle.ct_model.specs.Applies.{ActApplies, WritesApply, WriteFits, RowIsOf, MinRises, IsRaise}
 use Rattle.ct_model.specs.Apply.{written}
 use Rattle.ct_model.specs.Schemas.{AllHold, IsKey, IsKeyColumn}
 use Rattle.ct_model.specs.Tables.{table_of}
-use Rattle.ct_database.specs.Storable.{IsRowStorable, IsWriteStorable, IsActStorable}
+use Rattle.ct_database.specs.Storable.{IsRowStorable, IsWriteStorable, IsMinStorable, IsActStorable}
 use Rattle.ct_database.specs.Laws.{ApplyingIsStorable}
 use Rattle.ct_database.proofs.Numbered.{written_schema, found_back}
 
@@ -64,6 +66,20 @@ key_of_columns columns [] key = absurd key
 key_of_columns columns (id ∷ []) key = let inside : id - 1 < length columns = there IsKeyColumn columns (id - 1) (slice_get columns (id - 1)) refl key.1 in ((key.0, omega (arith, key.0)), tt)
 key_of_columns columns (id ∷ other ∷ more) key = absurd key
 
+-- ---- minima
+
+rises_from : (min : ℕ) (tracked : Option Tracked) → MinRises min tracked → IfSome tracked (λ tracked. tracked.min ≤ min)
+rises_from min None rises = tt
+rises_from min (Some tracked) rises = omega arith
+
+min_of : (min : ℕ) (found : Option Table) → IsSomeAnd found (λ table. MinRises min table.tracked) → IfSome found (λ table. IfSome table.tracked (λ tracked. tracked.min ≤ min))
+min_of min None rises = tt
+min_of min (Some table) rises = rises_from min table.tracked rises
+
+minima_of : (tables : List Table) (version : ℕ) (minima : List Min) → AllByRecursion (IsRaise tables version) minima → AllByRecursion (IsMinStorable tables) minima
+minima_of tables version [] raises = tt
+minima_of tables version (listed ∷ minima) raises = (min_of listed.min (table_of tables listed.table) raises.0.0, minima_of tables version minima raises.1)
+
 -- ---- entries
 
 act_of : (db : Db) (version : ℕ) (draws : Bool) (act : Act) → ActApplies db version draws act → IsActStorable db.tables act
@@ -73,7 +89,7 @@ act_of db version draws (Truncate id) apply = tt
 act_of db version draws (Enable id masks) apply = tt
 act_of db version draws (Disable id) apply = tt
 act_of db version draws (Database keep) apply = tt
-act_of db version draws (Raise minima) apply = tt
+act_of db version draws (Raise minima) apply = minima_of db.tables version minima apply.2
 
 version_of : (draws : Bool) (before version : ℕ) → version ≡ (if draws then before + 1 else before) → MatchBool draws (before < version) (before ≤ version)
 version_of true before version e = omega arith

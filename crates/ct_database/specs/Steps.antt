@@ -1,30 +1,30 @@
 -- What the parts of a database in memory keep, and the steps of its code. No promise speaks of them.
-use Rattle.std.specs.Prelude.{◌≡◌, ℕ, ◌<◌, ◌≤◌, Bool, nat_lt, ◌==◌, ◌&&◌, List, [], ◌∷◌, map, filter, Option, if◌then◌else◌}
+use Rattle.std.specs.Prelude.{◌≡◌, ◌⊎◌, ℕ, ◌^◌, ◌<◌, ◌≤◌, pos, ◌-ℤ◌, Bool, false, nat_lt, ◌==◌, ◌&&◌, List, [], ◌∷◌, ◌++◌, length, map, filter, Option, None, Some, if◌then◌else◌}
 use Rattle.std.specs.List.{AllByRecursion}
 use Rattle.std.specs.Ordering.{is_eq}
+use Rattle.std.specs.declared.sync.Arc.{Arc}
 use Rattle.ct_types.specs.Order.{key_cmp}
 use Rattle.ct_types.specs.declared.value.Key.{Key}
+use Rattle.ct_types.specs.declared.value.Value.TheVariants.{Int}
 use Rattle.ct_types.specs.declared.catalogue.Catalogued.{Catalogued}
+use Rattle.ct_types.specs.declared.tracked.Tracked.{Tracked}
 use Rattle.ct_types.specs.declared.entry.Change.{Change}
 use Rattle.ct_types.specs.declared.entry.Kept.{Kept}
 use Rattle.ct_types.specs.declared.entry.Entry.{Entry}
 use Rattle.ct_model.specs.declared.db.Table.{Table}
 use Rattle.ct_model.specs.declared.db.Dated.{Dated}
-use Rattle.ct_model.specs.declared.db.Db.{Db}
-use Rattle.ct_model.specs.Apply.{trim, kept_of}
+use Rattle.ct_model.specs.Apply.{commit_stays, kept_of}
 use Rattle.ct_model.specs.Lists.{EachToLater}
-use Rattle.ct_model.specs.Net.{last_of, window}
+use Rattle.ct_model.specs.Net.{changes_above, last_of, window}
 use Rattle.ct_model.specs.Tables.{catalogued}
 use Rattle.ct_model.specs.Valid.{AreNumbered}
+use Rattle.ct_ptree.specs.declared.pair.Pair.{Pair}
+use Rattle.ct_ptree.specs.Pairs.{value_at}
 
 -- the catalogue is that of the tables, whose ids count from 1
 pub record AreListed (catalogue : List Catalogued) (tables : List Table) : Type 0 where
   pub same : catalogue ≡ map catalogued tables
   pub numbered : AreNumbered 1 tables
-
--- the versions of commits rise strictly
-abbrev pub DoRise : List Kept → Type 0
-DoRise = EachToLater (λ one later. one.version < later.version)
 
 -- no commit is above a version
 abbrev pub AreWithin : ℕ → List Kept → Type 0
@@ -38,11 +38,6 @@ AreBehind version = AllByRecursion (λ one. version < one.version)
 abbrev pub is_later : ℕ → Kept → Bool
 is_later version one = nat_lt version one.version
 
--- what is kept is trimmed, and no commit is above the database's version
-pub record IsTrimmed (db : Db) : Type 0 where
-  pub trimmed : trim db.tables db.kept ≡ db.kept
-  pub within : AreWithin db.version db.kept
-
 -- the commit of an entry that draws
 abbrev pub added_by : Entry → List Kept
 added_by entry = if entry.draws then kept_of entry ∷ [] else []
@@ -50,6 +45,60 @@ added_by entry = if entry.draws then kept_of entry ∷ [] else []
 -- what is added is above all that is kept
 abbrev pub AreNewest : List Kept → List Kept → Type 0
 AreNewest kept = AllByRecursion (λ one. AllByRecursion (λ old. old.version < one.version) kept)
+
+-- ---- the commits that are stored
+
+-- the key of a version: the i64 that stands among all i64 as the version among all u64
+unfoldable pub version_key : ℕ → Key
+version_key version = record { 0 = Int (pos version -ℤ pos (2 ^ 63)) ∷ [] }
+
+-- the stored commits, and whether one more takes no memory
+pub record StoredCommits : Type 0 where
+  pub commits : List Kept
+  pub has_room : Bool
+
+module _ {Z : Type 0} where
+  -- the commits of a tree
+  abbrev pub commits_of : List (Pair (Arc Kept Z)) → List Kept
+  commits_of = map (λ (pair : Pair (Arc Kept Z)). pair.value.value)
+
+  -- the commit behind a pointer, if there is one
+  abbrev pub newest_of : Option (Arc Kept Z) → List Kept
+  newest_of None = []
+  newest_of (Some it) = it.value ∷ []
+
+  -- those of a tree and the newest, for which there is room where it is not there
+  abbrev pub stored : List (Pair (Arc Kept Z)) → Option (Arc Kept Z) → StoredCommits
+  stored older newest = record { commits = commits_of older ++ newest_of newest; has_room = length (newest_of newest) == 0 }
+
+  -- each commit of a tree stands at the key of its version
+  abbrev pub AreAtVersions : List (Pair (Arc Kept Z)) → Type 0
+  AreAtVersions = AllByRecursion (λ (pair : Pair (Arc Kept Z)). pair.key ≡ version_key pair.value.value.version)
+
+  -- so they do, and the newest is above them
+  abbrev pub AreByVersion : List (Pair (Arc Kept Z)) → Option (Arc Kept Z) → Type 0
+  AreByVersion older newest = AreAtVersions older × AreNewest (commits_of older) (newest_of newest)
+
+  -- the first commit of a tree stands at this key, and no table needs it
+  abbrev pub BeginsUnneeded : List Table → List (Pair (Arc Kept Z)) → Key → Type 0
+  BeginsUnneeded tables [] key = ⊥
+  BeginsUnneeded tables (first ∷ rest) key = (first.key ≡ key) × (commit_stays tables first.value.value ≡ false)
+
+-- nothing was removed, or the first commit, which no table needs
+abbrev pub IsSwept : List Table → List Kept → List Kept → Type 0
+IsSwept tables old new = (new ≡ old) ⊎ ((first : Kept) × (old ≡ first ∷ new) × (commit_stays tables first ≡ false))
+
+-- ---- the last change of a key
+
+-- the changes of a table that count, by how it is tracked
+abbrev pub counted_since : ℕ → Option Tracked → List Kept → List Dated
+counted_since table None kept = []
+counted_since table (Some tracked) kept = changes_above table tracked.min kept
+
+-- the same, if there is the table
+abbrev pub counted_of : Option Table → List Kept → List Dated
+counted_of None kept = []
+counted_of (Some table) kept = counted_since table.schema.id table.tracked kept
 
 -- whether a change is one of a table and key
 abbrev pub is_of : ℕ → Key → Change → Bool
@@ -62,3 +111,29 @@ dated version change = record { version = version; change = change }
 -- the last change of a table and key among those of a commit with this version
 abbrev pub last_here : ℕ → ℕ → Key → List Change → Option Dated
 last_here table version key changes = last_of (window (map (dated version) (filter (λ change. change.table == table) changes)) key)
+
+-- the second of two changes, or the first where there is no second
+abbrev pub or_first : Option Dated → Option Dated → Option Dated
+or_first first None = first
+or_first first (Some last) = Some last
+
+-- the last change of a table and key in some commits
+abbrev pub last_in : ℕ → Key → List Kept → Option Dated
+last_in table key [] = None
+last_in table key (one ∷ kept) = or_first (last_here table one.version key one.changes) (last_in table key kept)
+
+-- the versions of commits rise strictly
+abbrev pub Rise : List Kept → Type 0
+Rise = EachToLater (λ one later. one.version < later.version)
+
+-- where a note on a key of a table stands: at the table's id, and then the key
+unfoldable pub own_key : ℕ → Key → Key
+own_key table key = record { 0 = Int (pos table) ∷ key.0 }
+
+-- the version that is noted is that of the last change of a table and key in some commits, where there is one
+abbrev pub IsNoted : ℕ → Key → List Kept → Option ℕ → Type 0
+IsNoted table key older noted = (last : Dated) → last_in table key older ≡ Some last → noted ≡ Some last.version
+
+-- so it is of all that the newest commit does not change
+abbrev pub AreNoted : List Kept → List Kept → List (Pair ℕ) → Type 0
+AreNoted older newest notes = (table : ℕ) (key : Key) → last_in table key newest ≡ None → IsNoted table key older (value_at notes (own_key table key))

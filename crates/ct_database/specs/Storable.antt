@@ -5,6 +5,7 @@ use Rattle.std.specs.Option.{IfSome}
 use Rattle.ct_types.specs.declared.value.Key.{Key}
 use Rattle.ct_types.specs.declared.value.Row.{Row}
 use Rattle.ct_types.specs.declared.schema.Schema.{Schema}
+use Rattle.ct_types.specs.declared.entry.Min.{Min}
 use Rattle.ct_types.specs.declared.entry.Write.{Write}
 use Rattle.ct_types.specs.declared.entry.Act.{Act}
 use Rattle.ct_types.specs.declared.entry.Act.TheVariants.{Commit, Define, Truncate, Enable, Disable, Database, Raise}
@@ -27,6 +28,10 @@ IsWriteStorable tables write = IfSome (table_of tables write.table) (λ table. I
 abbrev pub IsSchemaStorable : List Table → Schema → Type 0
 IsSchemaStorable tables schema = (schema.id ≡ length tables + 1) × HasKeyColumns schema
 
+-- a listed minimum is not below that of its table, where that is there and tracked
+abbrev pub IsMinStorable : List Table → Min → Type 0
+IsMinStorable tables listed = IfSome (table_of tables listed.table) (λ table. IfSome table.tracked (λ tracked. tracked.min ≤ listed.min))
+
 abbrev pub IsActStorable : List Table → Act → Type 0
 IsActStorable tables (Commit writes) = AllByRecursion (IsWriteStorable tables) writes
 IsActStorable tables (Define schema) = IsSchemaStorable tables schema
@@ -34,7 +39,7 @@ IsActStorable tables (Truncate id) = Unit {0}
 IsActStorable tables (Enable id masks) = Unit {0}
 IsActStorable tables (Disable id) = Unit {0}
 IsActStorable tables (Database keep) = Unit {0}
-IsActStorable tables (Raise minima) = Unit {0}
+IsActStorable tables (Raise minima) = AllByRecursion (IsMinStorable tables) minima
 
 -- an entry that draws has a version above the database's, one that does not has no lesser one
 pub record IsStorable (db : Db) (entry : Entry) : Type 0 where

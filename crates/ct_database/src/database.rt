@@ -4,20 +4,26 @@ ghost use Rattle.ct_model.specs.Apply.{apply as applied, no_db};
 ghost use Rattle.ct_model.specs.Net.{net as net_changes};
 ghost use Rattle.ct_model.specs.Tables.{catalogued, table_of};
 ghost use Rattle.ct_model.specs.Versions.{row_version as row_version_of};
+ghost use Rattle.ct_database.specs.Commits.{committed};
 ghost use Rattle.ct_database.specs.Storable.{IsStorable};
 
 use crate::changing::{act_on, keep_of};
 use crate::commits::Commits;
+use crate::committed::Committed;
 use crate::fresh::commit_of;
-use crate::last::last_row;
+use crate::last::last_counted;
 use crate::net::net_since;
 use crate::tables::Tables;
 use ct_source::Stored;
-use ct_types::{Catalogued, Entry, Keep, Kept, Key, List, Memory, NetRow, VersionRow};
+use ct_types::{Catalogued, Entry, Keep, Key, List, Memory, NetRow, VersionRow};
 use std::alloc::Global;
 use std::marker::Model;
 
 /// The database in memory, which contracts see as the plain database.
+///
+/// A commit that no tracked table needs any more stays stored until [`Database::sweep`] removes it. So do changes of a table up to
+/// its minimum, or of one that is tracked no more, while another table needs their commit. They do not count: no call shows them.
+/// What is noted of a key, the version of its last change, stays: a few bytes for each key of a tracked table that was ever changed.
 #[derive(Drop)]
 pub struct Database {
     alloc: Global,
@@ -31,13 +37,14 @@ pub struct Database {
 
 impl Model for Database {
     ghost use Rattle.ct_model.specs.declared.db.Db.{Db};
-    ghost use Rattle.ct_database.specs.Steps.{IsTrimmed};
+    ghost use Rattle.ct_model.specs.Apply.{trim};
+    ghost use Rattle.ct_database.specs.Steps.{AreWithin};
 
     ghost Value = { Db };
 
-    ghost view = { λ it. record { version = it.version; time = it.time; last_xdes = it.last_xdes; keep = it.keep; tables = it.tables; kept = it.kept } };
+    ghost view = { λ it. record { version = it.version; time = it.time; last_xdes = it.last_xdes; keep = it.keep; tables = it.tables; kept = trim it.tables it.kept.commits } };
 
-    ghost invariant = { λ it. IsTrimmed (record { version = it.version; time = it.time; last_xdes = it.last_xdes; keep = it.keep; tables = it.tables; kept = it.kept }) };
+    ghost invariant = { λ it. AreWithin it.version it.kept.commits };
 }
 
 impl Database {
@@ -92,36 +99,64 @@ impl Database {
     pub fn net(&self, alloc: Global, table: u32, since: Option<i64>) -> Result<List<NetRow>, Memory>
         ensures { IfOk result (λ made. made ≡ net_changes self.now table since) }
     {
+        self.tables.are_numbered();
         net_since(alloc, self.tables.table(table), &self.kept, since)
     }
 
-    /// The commits whose changes are kept, by rising version.
-    pub fn kept(&self) -> &[Kept]
-        ensures { result.now ≡ self.now.kept }
+    /// The version, transaction number and time of each commit whose changes are kept, by rising version. It costs all commits that
+    /// are stored.
+    pub fn kept(&self, alloc: Global) -> Result<List<Committed>, Memory>
+        ensures { IfOk result (λ made. made ≡ map committed self.now.kept) }
     {
-        self.kept.as_slice()
+        self.kept.told(alloc, self.tables.as_slice())
     }
 
     /// The version and the context of the last kept change of a key, or none of both.
     ///
-    /// It walks the kept commits from the newest back to that change, and copies its context, which takes memory; a key without a
-    /// kept change costs all that is kept.
+    /// It is a look-up of what is noted of the key, one of the commit with that version, and a walk over that commit's changes. It
+    /// copies the key and the context, which takes memory.
     pub fn row_version(&self, alloc: Global, table: u32, key: &Key) -> Result<VersionRow, Memory>
         ensures { IfOk result (λ made. made ≡ row_version_of self.now table key.now) }
     {
-        last_row(alloc, table, key, self.kept.as_slice())
+        self.tables.are_numbered();
+        last_counted(alloc, self.tables.table(table), &self.kept, key)
     }
 
-    /// Makes of the database what one committed entry makes of it, in place, at the cost of what the entry touches. An act that
-    /// changes how tables are tracked costs what is kept as well.
+    /// The same database once more, with no copy of a row or a commit: its cost grows with the number of tables alone. Either is
+    /// then changed without the other, and a change copies what it touches and the other holds too: a leaf, a branch and a root.
+    pub fn share(&self, alloc: Global) -> Result<Database, Memory>
+        ensures { IfOk result (λ made. made ≡ self.now) }
+    {
+        Ok(Database {
+            alloc,
+            version: self.version,
+            time: self.time,
+            last_xdes: self.last_xdes,
+            keep: self.keep,
+            tables: self.tables.share(alloc)?,
+            kept: self.kept.share()?,
+        })
+    }
+
+    /// Gives back the memory of up to so many of the oldest commits that are stored and that no tracked table needs. The database
+    /// stays the same, also where memory is wanted: the removal of what a share holds too copies its path.
+    pub fn sweep(&mut self, most: usize) -> Result<(), Memory>
+        ensures { self.new ≡ self.old }
+    {
+        self.kept.sweep(self.tables.as_slice(), most)
+    }
+
+    /// Makes of the database what one committed entry makes of it, in place, at the cost of what the entry touches.
     ///
-    /// Want of memory leaves the database as it was.
+    /// No act removes a commit: an act that raises minima, or tracks a table no more, leaves those that no table needs to
+    /// [`Database::sweep`]. Want of memory leaves the database as it was.
     #[tactic(auto, unfolding(ct_model::specs::Apply::apply))]
     pub fn apply(&mut self, entry: Entry) -> Result<(), Memory>
         requires { IsStorable self.old entry }
         ensures ok { OnOk result (self.new ≡ applied self.old entry) }
         ensures err { OnErr result (self.new ≡ self.old) }
     {
+        self.tables.are_numbered();
         let fresh = commit_of(self.alloc, &entry)?;
         let keep = keep_of(&entry.act, self.keep);
         let Entry {
@@ -131,15 +166,7 @@ impl Database {
             time,
             act,
         } = entry;
-        act_on(
-            self.alloc,
-            &mut self.tables,
-            &mut self.kept,
-            fresh,
-            act,
-            version,
-            draws,
-        )?;
+        act_on(&mut self.tables, &mut self.kept, fresh, act, version, draws)?;
         self.version = version;
         self.time = time;
         self.last_xdes = self.last_xdes.max(xdes);

@@ -1,13 +1,11 @@
-ghost use Rattle.std.specs.Prelude.{◌≡◌, ◌∷◌, [], IfOk, filter, map};
-ghost use Rattle.std.specs.Option.{option_to_list};
+ghost use Rattle.std.specs.Prelude.{◌≡◌, IfOk, filter, map};
 ghost use Rattle.ct_types.specs.declared.entry.Act.TheVariants.{Commit};
-ghost use Rattle.ct_model.specs.Apply.{change_of, changes_of, kept_of, trim};
-ghost use Rattle.ct_database.specs.Steps.{added_by};
+ghost use Rattle.ct_model.specs.Apply.{change_of, changes_of, kept_of};
+ghost use Rattle.ct_database.specs.Steps.{added_by, newest_of};
 
-use crate::trims::{keeps_commit, trim_changes};
-use ct_source::Stored;
 use ct_types::{Act, Change, Copies, Entry, Kept, List, Memory, Write};
 use std::alloc::Global;
+use std::sync::Arc;
 
 fn tracked_changes(alloc: Global, writes: &[Write]) -> Result<List<Change>, Memory>
     ensures { IfOk result (λ made. made ≡ map change_of (filter (λ write. write.tracked) writes.now)) }
@@ -49,35 +47,12 @@ fn whole_commit(alloc: Global, entry: &Entry) -> Result<Kept, Memory>
 }
 
 /// The commit of an entry that draws; none of one that does not.
-pub(crate) fn commit_of(alloc: Global, entry: &Entry) -> Result<Option<Kept>, Memory>
-    ensures { IfOk result (λ made. option_to_list made ≡ added_by entry.now) }
+pub(crate) fn commit_of(alloc: Global, entry: &Entry) -> Result<Option<Arc<Kept>>, Memory>
+    ensures { IfOk result (λ made. newest_of made ≡ added_by entry.now) }
 {
     if entry.draws {
-        Ok(Some(whole_commit(alloc, entry)?))
+        Ok(Some(Arc::new(alloc, whole_commit(alloc, entry)?)?))
     } else {
         Ok(None)
-    }
-}
-
-/// Leaves of a commit what some tracked table needs.
-fn trimmed_one(alloc: Global, tables: &[Stored], one: Kept) -> Option<Kept>
-    ensures { option_to_list result ≡ trim tables.now (one ∷ []) }
-{
-    if keeps_commit(tables, &one) {
-        let mut one = one;
-        trim_changes(alloc, tables, &mut one);
-        Some(one)
-    } else {
-        None
-    }
-}
-
-/// Leaves of a commit, if there is one, what some tracked table needs.
-pub(crate) fn trimmed(alloc: Global, tables: &[Stored], one: Option<Kept>) -> Option<Kept>
-    ensures { option_to_list result ≡ trim tables.now (option_to_list one) }
-{
-    match one {
-        None => None,
-        Some(one) => trimmed_one(alloc, tables, one),
     }
 }

@@ -1,17 +1,23 @@
-//! The database in memory: an entry changes it in place, at the cost of what it touches.
+//! The database in memory: an entry changes it in place, at the cost of what it touches, and a share of it costs a step a table.
 #![tactic(auto)]
 
 mod acts;
 mod changing;
 mod commits;
+mod committed;
 mod database;
 mod fresh;
 mod last;
 mod laws;
+mod needed;
 mod net;
+mod noted;
+mod sweeping;
 mod tables;
-mod trims;
+mod told;
+mod version;
 mod writes;
 
+pub use committed::Committed;
 pub use database::Database;
 pub use laws::applying_is_storable;

@@ -26,14 +26,20 @@ fn tracked_since(
     kept: &Commits,
     since: Option<i64>,
 ) -> Result<List<NetRow>, Memory>
-    ensures { IfOk result (λ made. made ≡ net_tracked table.now.schema table.now.tracked kept.now since) }
+    ensures { IfOk result (λ made. made ≡ net_tracked table.now.schema table.now.tracked kept.now.commits since) }
 {
     match table.tracked() {
         None => Ok(List::new(alloc)),
         Some(tracked) => {
             let floor = floor(tracked.min, since);
-            let later = kept.since(floor);
-            net_of_kept(alloc, table.schema(), tracked.masks, floor, later)
+            let later = kept.since(floor)?;
+            net_of_kept(
+                alloc,
+                table.schema(),
+                tracked.masks,
+                floor,
+                later.as_slice(),
+            )
         }
     }
 }
@@ -45,7 +51,7 @@ pub(crate) fn net_since(
     kept: &Commits,
     since: Option<i64>,
 ) -> Result<List<NetRow>, Memory>
-    ensures { IfOk result (λ made. made ≡ net_of (option_copied table.entry) kept.now since) }
+    ensures { IfOk result (λ made. made ≡ net_of (option_copied table.entry) kept.now.commits since) }
 {
     match table {
         None => Ok(List::new(alloc)),

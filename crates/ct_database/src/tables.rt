@@ -1,8 +1,9 @@
-ghost use Rattle.std.specs.Prelude.{◌≡◌, ◌++◌, ◌∷◌, [], None, OnOk, OnErr, map, fold};
+ghost use Rattle.std.specs.Prelude.{◌≡◌, ◌++◌, ◌∷◌, [], None, IfOk, OnOk, OnErr, map, fold};
 ghost use Rattle.std.specs.List.{AllByRecursion};
 ghost use Rattle.std.specs.Option.{option_copied};
 ghost use Rattle.ct_model.specs.Apply.{written, tracked_as, truncated, raised};
 ghost use Rattle.ct_model.specs.Tables.{catalogued, table_of};
+ghost use Rattle.ct_model.specs.Valid.{AreNumbered};
 ghost use Rattle.ct_database.specs.Storable.{IsWriteStorable, IsSchemaStorable};
 
 use crate::{acts, writes};
@@ -53,6 +54,17 @@ fn add(
     }
 }
 
+/// The same catalogue once more.
+fn copied(alloc: Global, catalogue: &[Catalogued]) -> Result<Vec<Catalogued>, Memory>
+    ensures { IfOk result (λ made. made.items ≡ catalogue.now) }
+{
+    let mut made = Vec::with_capacity(alloc, catalogue.len())?;
+    for listed in catalogue {
+        made.push(listed.copy(alloc)?)?;
+    }
+    Ok(made)
+}
+
 impl Tables {
     /// No table. It takes no memory.
     pub(crate) fn new(alloc: Global) -> Tables
@@ -63,6 +75,24 @@ impl Tables {
             catalogue: Vec::new(alloc),
             tables: Vec::new(alloc),
         }
+    }
+
+    /// The ids of the tables count from 1.
+    pub(crate) fn are_numbered(&self)
+        ensures { AreNumbered 1 self.now }
+    {
+        let _ = &self.tables;
+    }
+
+    /// The same tables once more, with no copy of a row.
+    pub(crate) fn share(&self, alloc: Global) -> Result<Tables, Memory>
+        ensures { IfOk result (λ made. made ≡ self.now) }
+    {
+        Ok(Tables {
+            alloc,
+            catalogue: copied(alloc, self.catalogue.as_slice())?,
+            tables: writes::shares(alloc, self.tables.as_slice())?,
+        })
     }
 
     /// The tables as the catalogue has them.

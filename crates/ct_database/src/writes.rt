@@ -58,7 +58,7 @@ fn write_all(tables: &mut Vec<Stored>, writes: List<Write>) -> Result<(), Memory
 }
 
 /// The same tables once more.
-fn shares(alloc: Global, tables: &[Stored]) -> Result<Vec<Stored>, Memory>
+pub(crate) fn shares(alloc: Global, tables: &[Stored]) -> Result<Vec<Stored>, Memory>
     ensures { IfOk result (λ made. made.items ≡ tables.now) }
 {
     let mut made = Vec::with_capacity(alloc, tables.len())?;

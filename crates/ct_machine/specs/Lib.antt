@@ -1,9 +1,11 @@
-pub mod Decide
-pub mod Laws
 pub mod Machine
-pub mod Play
+pub mod Seen
 pub mod Reads
+pub mod Holding
+pub mod Conflicts
+pub mod Decide
 pub mod Step
-pub mod Transcript
-pub mod Built
+pub mod Play
 pub mod Fits
+pub mod Laws
+pub mod Transcript

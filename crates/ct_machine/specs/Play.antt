@@ -14,23 +14,23 @@ abbrev pub is_memory : Reply → Bool
 is_memory (Refused Memory) = true
 is_memory other = false
 
--- the replies that a machine may give: its own, or want of memory
-abbrev pub Follows : Machine → Command → Reply → Type 0
-Follows m what reply = (is_memory reply ≡ true) ⊎ (reply ≡ (step m what).1)
+-- the replies that a machine may give to a session: its own, or want of memory
+abbrev pub Follows : Machine → ℕ → Command → Reply → Type 0
+Follows m s what reply = (is_memory reply ≡ true) ⊎ (reply ≡ (step m s what).1)
 
 -- the machine after a reply; want of memory leaves it as it was
-abbrev pub after : Machine → Command → Reply → Machine
-after m what reply = if is_memory reply then m else (step m what).0
+abbrev pub after : Machine → ℕ → Command → Reply → Machine
+after m s what reply = if is_memory reply then m else (step m s what).0
 
 -- each reply of the journal follows from the machine before it
 abbrev pub IsPlay : Machine → List Journaled → Type 0
 IsPlay m [] = Unit {0}
-IsPlay m (one ∷ more) = Follows m one.what one.reply × IsPlay (after m one.what one.reply) more
+IsPlay m (one ∷ more) = Follows m one.session one.what one.reply × IsPlay (after m one.session one.what one.reply) more
 
 -- the machine after the journal
 abbrev pub end_of : Machine → List Journaled → Machine
 end_of m [] = m
-end_of m (one ∷ more) = end_of (after m one.what one.reply) more
+end_of m (one ∷ more) = end_of (after m one.session one.what one.reply) more
 
 -- what a session asked for, without the reply
 pub record Call : Type 0 where

@@ -1,4 +1,4 @@
--- What a statement reads of a database: the catalogue in which names are bound, what the functions of expressions may ask for,
+-- What a statement reads of what it sees: the catalogue in which names are bound, what the functions of expressions may ask for,
 -- and the rows of the sources of a SELECT. The columns of CHANGETABLE are those of
 -- https://learn.microsoft.com/sql/relational-databases/system-functions/changetable-transact-sql; those of the two system tables
 -- are some of the ones that the reference gives for sys.dm_tran_commit_table and sys.change_tracking_tables.
@@ -34,6 +34,7 @@ use Rattle.ct_expr.specs.Functions.{counted, counted_or_null, bytes_or_null, one
 use Rattle.ct_expr.specs.Meaning.{World, on, row_version, value}
 use Rattle.ct_types.specs.Answers.{Answer, ◌>>=◌, each}
 use Rattle.ct_query.specs.Answer.{answer}
+use Rattle.ct_machine.specs.Seen.{Seen}
 
 -- ---- names
 
@@ -48,17 +49,17 @@ tracks (table ∷ tables) id = if table.schema.id == id then is_some table.track
 
 -- ---- expressions
 
--- what expressions may ask for beside their row; there are no variables yet
-abbrev pub env_of : Db → Environment
-env_of db = record {
-  variables = record { 0 = [] };
-  current = current db;
-  tables = catalogue db;
+-- what expressions may ask for beside their row
+abbrev pub env_of : Seen → Environment
+env_of seen = record {
+  variables = record { 0 = seen.variables };
+  current = current seen.db;
+  tables = catalogue seen.db;
 }
 
 -- beside their row, expressions read this: a SELECT in brackets asks for the version of a key's last kept change
-abbrev pub world_of : Db → World
-world_of db = record { env = env_of db; versions = last_version db }
+abbrev pub world_of : Seen → World
+world_of seen = record { env = env_of seen; versions = last_version seen.db }
 
 -- ---- the rows of CHANGETABLE(CHANGES ..)
 
@@ -83,8 +84,8 @@ since_of (Text t) = None
 since_of (Bytes b) = None
 
 -- the argument is evaluated on no row, since it names no column
-abbrev pub changes_rows : Db → ℕ → BoundExpr → Answer (List Row)
-changes_rows db id since = value (on (world_of db) (record { 0 = [] })) since >>= (λ last. Ok (map shown (net db id (since_of last))))
+abbrev pub changes_rows : Seen → ℕ → BoundExpr → Answer (List Row)
+changes_rows seen id since = value (on (world_of seen) (record { 0 = [] })) since >>= (λ last. Ok (map shown (net seen.db id (since_of last))))
 
 -- ---- the row of CHANGETABLE(VERSION ..)
 
@@ -93,8 +94,8 @@ abbrev pub shown_version : Key × VersionRow → Row
 shown_version found = record { 0 = counted_or_null found.1.version ∷ bytes_or_null found.1.context ∷ found.0.0 }
 
 -- the row of the key that the values make on a row
-abbrev pub version_on : Db → BoundRowVersion → Row → Answer Row
-version_on db version row = row_version (on (world_of db) row) version >>= (λ found. Ok (shown_version found))
+abbrev pub version_on : Seen → BoundRowVersion → Row → Answer Row
+version_on seen version row = row_version (on (world_of seen) row) version >>= (λ found. Ok (shown_version found))
 
 -- ---- the rows of the system tables
 
@@ -116,26 +117,26 @@ rows_of (Some table) = table.rows
 
 -- a table's rows in key order, one row for each net change, the row of one key, or those of a system table; the values of VERSION
 -- are evaluated on no row, since they name no column here
-abbrev pub source_rows : Db → BoundSource → Answer (List Row)
-source_rows db (source.Table id) = Ok (rows_of (table_of db.tables id))
-source_rows db (source.Changes id since) = changes_rows db id since
-source_rows db (source.Version version) = version_on db version (record { 0 = [] }) >>= (λ row. Ok (row ∷ []))
-source_rows db source.CommitTable = Ok (map shown_commit db.kept)
-source_rows db source.TrackingTables = Ok (filter_map shown_tracking (catalogue db))
+abbrev pub source_rows : Seen → BoundSource → Answer (List Row)
+source_rows seen (source.Table id) = Ok (rows_of (table_of seen.db.tables id))
+source_rows seen (source.Changes id since) = changes_rows seen id since
+source_rows seen (source.Version version) = version_on seen version (record { 0 = [] }) >>= (λ row. Ok (row ∷ []))
+source_rows seen source.CommitTable = Ok (map shown_commit seen.db.kept)
+source_rows seen source.TrackingTables = Ok (filter_map shown_tracking (catalogue seen.db))
 
 -- of a source that is not there, none
-abbrev pub optional_rows : Db → Option BoundSource → Answer (List Row)
-optional_rows db None = Ok []
-optional_rows db (Some source) = source_rows db source
+abbrev pub optional_rows : Seen → Option BoundSource → Answer (List Row)
+optional_rows seen None = Ok []
+optional_rows seen (Some source) = source_rows seen source
 
 -- ---- SELECT
 
 -- the rows of the right source; in CROSS APPLY the values of VERSION are evaluated on each left row
-abbrev pub right_rows : Db → Join → Option BoundSource → List Row → Answer (List Row)
-right_rows db Apply (Some (source.Version version)) lefts = each (version_on db version) lefts
-right_rows db join right lefts = optional_rows db right
+abbrev pub right_rows : Seen → Join → Option BoundSource → List Row → Answer (List Row)
+right_rows seen Apply (Some (source.Version version)) lefts = each (version_on seen version) lefts
+right_rows seen join right lefts = optional_rows seen right
 
 -- the rows of the left source, then those of the right one, and what the query answers over them
-abbrev pub selected : Db → BoundSelect → Answer Grid
-selected db query =
-    optional_rows db query.left >>= (λ left. right_rows db query.plan.join query.right left >>= (λ right. answer (world_of db) query.plan left right))
+abbrev pub selected : Seen → BoundSelect → Answer Grid
+selected seen query =
+    optional_rows seen query.left >>= (λ left. right_rows seen query.plan.join query.right left >>= (λ right. answer (world_of seen) query.plan left right))

@@ -2,12 +2,10 @@
 //! few tests of them that code makes and the laws that stand above them.
 #![tactic(auto)]
 
-mod built;
 mod checks;
 mod decision;
 mod laws;
 
-pub use built::is_built;
 pub use checks::{draws_version, has_number, wants_memory};
 pub use decision::Decision;
-pub use laws::{entries_draw, one_whole_play, plays_go_on};
+pub use laws::{entries_draw, one_whole_play, plays_go_on, tracking_is_committed};

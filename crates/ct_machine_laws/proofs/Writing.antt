@@ -1,71 +1,33 @@
 -- INSERT, UPDATE and DELETE commit acts that apply, where binding keeps its promise and the rows fit.
-use Rattle.std.proofs.Common.{◌≡◌, ◌<◌, ℕ, List, [], ◌∷◌, length, Option, Some, None, Ok, Err, refl, ap, subst, ◌∙◌, arith}
+use Rattle.std.proofs.Common.{◌≡◌, ℕ, Bool, true, false, List, [], ◌∷◌, Option, Some, None, Ok, Err, refl, ap, subst, ◌∙◌, arith}
 use Rattle.std.specs.Option.{IsSomeAnd}
 use Rattle.ct_types.specs.declared.bound.Bound.{Bound}
 use Rattle.ct_types.specs.declared.bound.Bound.TheVariants.{Write as Writes}
 use Rattle.ct_types.specs.declared.bound.BoundWrite.{BoundWrite}
-use Rattle.ct_types.specs.declared.entry.Act.{Act}
-use Rattle.ct_types.specs.declared.entry.Act.TheVariants.{Commit}
 use Rattle.ct_types.specs.declared.entry.Write.{Write}
-use Rattle.ct_types.specs.declared.reply.Reply.{Reply}
+use Rattle.ct_types.specs.declared.stmt.Stmt.{Stmt}
 use Rattle.ct_types.specs.declared.stmt.Stmt.TheVariants as stmt
 use Rattle.ct_types.specs.Answers.{Answer, ◌>>=◌}
 use Rattle.ct_model.specs.declared.db.Db.{Db}
 use Rattle.ct_model.specs.declared.db.Table.{Table}
-use Rattle.ct_model.specs.Applies.{ActApplies, WritesApply}
+use Rattle.ct_model.specs.Applies.{WritesApply}
 use Rattle.ct_model.specs.Tables.{catalogued, table_of}
 use Rattle.ct_model.specs.Valid.{IsTableValid, IsValid}
 use Rattle.ct_model.proofs.Found.{found_has, found_id}
 use Rattle.ct_bind.specs.Binding.{binding}
 use Rattle.ct_bind.specs.Writes as binds
+use Rattle.ct_session.specs.Sessions.{SessionState, is_open}
 use Rattle.ct_write.specs.Duplicates.{duplicate}
 use Rattle.ct_write.specs.Writes.{writes_of}
 use Rattle.ct_write.proofs.Statements.{are_accepted}
-use Rattle.ct_machine.specs.declared.decision.Decision.TheVariants.{Commits}
-use Rattle.ct_machine.specs.Decide.{counted, decide_bound, fitted, without_duplicates, written}
-use Rattle.ct_machine.specs.Machine.{db_of}
+use Rattle.ct_machine.specs.Conflicts.{conflict}
+use Rattle.ct_machine.specs.Decide.{counted, decide_bound, fitted, seen, without_duplicates, written}
+use Rattle.ct_machine.specs.Holding.{blocked_keys}
+use Rattle.ct_machine.specs.Machine.{Machine, db_of}
 use Rattle.ct_machine.specs.Reads.{catalogue, world_of}
-use Rattle.ct_machine.specs.Step.{act_draws, entry_of}
 use Rattle.ct_machine_laws.specs.Laws.{IsAccepted, WritesCommitWell}
-use Rattle.ct_machine_laws.proofs.Committing.{was_bound}
-use Rattle.ct_machine_laws.proofs.Soundness.{sound_is_valid}
-
--- ---- what stands behind writes that commit
-
--- the writes of a statement that commits
-record Came (db : Db) (write : BoundWrite) (table : Table) (act : Act) : Type 0 where
-  writes : List Write
-  were : writes_of (world_of db) (catalogued table) write table.rows ≡ Ok writes
-  new : duplicate table.schema table.rows writes ≡ None
-  some : 0 < length writes
-  act_is : Commit writes ≡ act
-
-counted_came : (writes : List Write) (act : Act) (reply : Reply) → counted writes ≡ Commits act reply → (0 < length writes) × (Commit writes ≡ act)
-counted_came [] act reply e = absurd cc
-counted_came (write ∷ more) act reply e = (omega arith, cc)
-
-new_came : (table : Table) (writes : List Write) (place : Option ℕ) (act : Act) (reply : Reply) → without_duplicates table writes place ≡ Commits act reply
-    → (place ≡ None) × (counted writes ≡ Commits act reply)
-new_came table writes None act reply e = (refl, e)
-new_came table writes (Some place) act reply e = absurd cc
-
-fitted_came : (table : Table) (answer : Answer (List Write)) (act : Act) (reply : Reply) → fitted table answer ≡ Commits act reply
-    → (writes : List Write) × (answer ≡ Ok writes) × (without_duplicates table writes (duplicate table.schema table.rows writes) ≡ Commits act reply)
-fitted_came table (Err refusal) act reply e = absurd cc
-fitted_came table (Ok writes) act reply e = (writes, refl, e)
-
-came : (db : Db) (write : BoundWrite) (table : Table) (act : Act) (reply : Reply)
-    → fitted table (writes_of (world_of db) (catalogued table) write table.rows) ≡ Commits act reply → Came db write table act
-came db write table act reply e =
-    let it = fitted_came table (writes_of (world_of db) (catalogued table) write table.rows) act reply e in
-    let new = new_came table it.0 (duplicate table.schema table.rows it.0) act reply it.2 in
-    let count = counted_came it.0 act reply new.1 in
-    record { writes = it.0; were = it.1; new = new.0; some = count.0; act_is = count.1 }
-
-there : (found : Option Table) (db : Db) (write : BoundWrite) (act : Act) (reply : Reply) → written db write found ≡ Commits act reply
-    → (table : Table) × (found ≡ Some table) × (fitted table (writes_of (world_of db) (catalogued table) write table.rows) ≡ Commits act reply)
-there None db write act reply e = absurd cc
-there (Some table) db write act reply e = (table, refl, e)
+use Rattle.ct_machine_laws.specs.Sound.{IsSound, IsWell}
+use Rattle.ct_machine_laws.proofs.Committing.{decided_well, seen_newest, seen_valid, unless_aborted_well, unless_well}
 
 -- ---- the table that is found is valid
 
@@ -75,40 +37,70 @@ table_valid db id table valid is =
     subst (λ o. IsSomeAnd o (IsTableValid db.version db.keep)) is
     (found_has (IsTableValid db.version db.keep) (λ t. Unit {0}) (IsTableValid db.version db.keep) (λ t holds u. holds) db.tables id valid.tables found)
 
--- ---- the act applies
+-- ---- writes that apply are well
 
-applies : (db : Db) (version : ℕ) (write : BoundWrite) (table : Table) (act : Act) → IsValid db → table_of db.tables write.table ≡ Some table → IsAccepted db write table
-    → Came db write table act → ActApplies db version (act_draws db act) act
-applies db version write table act valid is accepted it =
-    let whole = table_valid db write.table table valid is in
+-- they commit at once, since no transaction is open
+counted_well : (m : Machine) (session : SessionState) (waits : Bool) (writes : List Write) → waits ≡ false → WritesApply (db_of m).tables writes → IsWell m session (counted waits writes)
+counted_well m session true [] at_once applies = tt
+counted_well m session false [] at_once applies = tt
+counted_well m session true (write ∷ more) at_once applies = absurd cc
+counted_well m session false (write ∷ more) at_once applies = (omega arith, applies, refl)
+
+new_well : (m : Machine) (s : ℕ) (table : Table) (writes : List Write) (place : Option ℕ) → IsSound m → (place ≡ None → WritesApply (db_of m).tables writes)
+    → IsWell m (m.sessions s) (without_duplicates (m.sessions s).tran table writes place)
+new_well m s table writes None sound applies =
+    counted_well m (m.sessions s) (is_open (m.sessions s).tran) writes (ap is_open (sound.sessions s).tran) (applies refl)
+new_well m s table writes (Some place) sound applies = tt
+
+fitted_well : (m : Machine) (s : ℕ) (table : Table) (answer : Answer (List Write)) → IsSound m
+    → ((writes : List Write) → answer ≡ Ok writes → duplicate table.schema table.rows writes ≡ None → WritesApply (db_of m).tables writes)
+    → IsWell m (m.sessions s) (fitted m s table answer)
+fitted_well m s table (Err refusal) sound applies = tt
+fitted_well m s table (Ok writes) sound applies =
+    let last = without_duplicates (m.sessions s).tran table writes (duplicate table.schema table.rows writes) in
+    unless_well m (m.sessions s) (blocked_keys m.sessions s table.schema.name writes) _
+    (unless_aborted_well m (m.sessions s) (conflict m.past (m.sessions s).tran table.schema.name table.schema.id writes) last
+    (new_well m s table writes (duplicate table.schema table.rows writes) sound (applies writes refl)))
+
+-- ---- the writes of a statement apply
+
+applies : (m : Machine) (s : ℕ) (write : BoundWrite) (table : Table) (writes : List Write) → IsSound m → table_of (seen m s).db.tables write.table ≡ Some table
+    → IsAccepted (seen m s) write table → writes_of (world_of (seen m s)) (catalogued table) write table.rows ≡ Ok writes → duplicate table.schema table.rows writes ≡ None
+    → WritesApply (db_of m).tables writes
+applies m s write table writes sound is accepted were new =
+    let db = (seen m s).db in
+    let whole = table_valid db write.table table (seen_valid m s sound) is in
     let own : table_of db.tables table.schema.id ≡ Some table = ap (λ n. table_of db.tables n) (found_id db.tables write.table table is) ∙ is in
-    let apply : WritesApply db.tables it.writes =
-    are_accepted (world_of db) db.tables table write it.writes own whole.schema whole.rows whole.rising accepted.columns accepted.kinds it.were (accepted.fit it.writes it.were) it.new in
-    subst (λ a. ActApplies db version (act_draws db a) a) it.act_is (it.some, apply, refl)
+    subst (λ (db : Db). WritesApply db.tables writes) (seen_newest m (m.sessions s) (sound.sessions s))
+    (are_accepted (world_of (seen m s)) db.tables table write writes own whole.schema whole.rows whole.rising accepted.columns accepted.kinds were (accepted.fit writes were) new)
 
 -- ---- the statement
 
+written_well : (m : Machine) (s : ℕ) (write : BoundWrite) (found : Option Table) → IsSound m → table_of (seen m s).db.tables write.table ≡ found
+    → ((table : Table) → table_of (seen m s).db.tables write.table ≡ Some table → IsAccepted (seen m s) write table) → IsWell m (m.sessions s) (written m s write found)
+written_well m s write None sound is accepted = tt
+written_well m s write (Some table) sound is accepted =
+    fitted_well m s table (writes_of (world_of (seen m s)) (catalogued table) write table.rows) sound
+    (λ writes were new. applies m s write table writes sound is (accepted table is) were new)
+
 abbrev IsWrite : Bound → Type 0
 IsWrite (Writes write) = Unit {0}
-IsWrite bound = ⊥
+IsWrite b = ⊥
 
-is_write : (answer : Answer BoundWrite) (bound : Bound) → (answer >>= (λ write. Ok (Writes write))) ≡ Ok bound → IsWrite bound
-is_write (Ok write) bound e = let same : Writes write ≡ bound = cc in subst IsWrite same tt
-is_write (Err refusal) bound e = absurd cc
+is_write : (answer : Answer BoundWrite) (b : Bound) → (answer >>= (λ write. Ok (Writes write))) ≡ Ok b → IsWrite b
+is_write (Ok write) b e = let same : Writes write ≡ b = cc in subst IsWrite same tt
+is_write (Err refusal) b e = absurd cc
 
-write_applies : (db : Db) (version : ℕ) (bound : Bound) (act : Act) (reply : Reply) → IsValid db → IsWrite bound
-    → ((write : BoundWrite) (table : Table) → bound ≡ Writes write → table_of db.tables write.table ≡ Some table → IsAccepted db write table)
-    → decide_bound db bound ≡ Commits act reply → ActApplies db version (act_draws db act) act
+write_well : (m : Machine) (s : ℕ) (it : Stmt) (b : Bound) → IsSound m → IsWrite b
+    → ((write : BoundWrite) (table : Table) → b ≡ Writes write → table_of (seen m s).db.tables write.table ≡ Some table → IsAccepted (seen m s) write table)
+    → IsWell m (m.sessions s) (decide_bound m s it b)
 unfolding decide_bound
-write_applies db version (Writes write) act reply valid is accepted e =
-    let it = there (table_of db.tables write.table) db write act reply e in
-    applies db version write it.0 act valid it.1 (accepted write it.0 refl it.1) (came db write it.0 act reply it.2)
-write_applies db version bound act reply valid is accepted e = absurd is
+write_well m s it (Writes write) sound is accepted = written_well m s write (table_of (seen m s).db.tables write.table) sound refl (λ table found. accepted write table refl found)
+write_well m s it b sound is accepted = absurd is
 
 pub writes_commit_well : WritesCommitWell
 unfolding binding
-writes_commit_well m context write sound accepted act reply e =
-    let it = was_bound m (stmt.Write context write) act reply e in
-    let db = db_of m in
-    write_applies db (entry_of m act).version it.bound act reply (sound_is_valid m sound) (is_write (binds.write_of (catalogue db) [] context write) it.bound it.was)
-    (λ bound table same found. accepted bound table (it.was ∙ ap (λ (b : Bound). Ok b) same) found) it.commits
+writes_commit_well m s context write sound accepted =
+    decided_well m s (stmt.Write context write)
+    (λ b came. write_well m s (stmt.Write context write) b sound (is_write (binds.write_of (catalogue (seen m s).db) (seen m s).variables context write) b came)
+    (λ bound table same found. accepted bound table (came ∙ ap (λ (b : Bound). Ok b) same) found))

@@ -1,9 +1,9 @@
 ghost use Rattle.ct_machine_laws.specs.Schemas.{CreatesDefinable};
 ghost use Rattle.ct_machine_laws.specs.Acts.{CreatesApply, EnablesApply, DisablesApply, TruncatesApply, SettingsApply};
 ghost use Rattle.ct_machine_laws.specs.Grammar.{ParsedAreSpelled};
-ghost use Rattle.ct_machine_laws.specs.Writes.{WritesSuitTheirTable};
+ghost use Rattle.ct_machine_laws.specs.Writes.{WritesSuitTheirTable, SetsSuitTheirVariable, DeclaresSuitTheirVariable};
 ghost use Rattle.ct_machine_laws.specs.Laws.{OpensSound, SoundIsValid, EntriesApply, StaysSound, PlaysKeepValid};
-ghost use Rattle.ct_machine_laws.specs.Laws.{SettingsCommitWell, CreatesCommitWell, EnablesCommitWell, DisablesCommitWell, TruncatesCommitWell, WrongCommitsWell, SelectsCommitWell, UnbuiltCommitsWell, CommandsCommitWell, WritesCommitWell};
+ghost use Rattle.ct_machine_laws.specs.Laws.{SettingsCommitWell, CreatesCommitWell, EnablesCommitWell, DisablesCommitWell, TruncatesCommitWell, WrongCommitsWell, SelectsCommitWell, TransactionsCommitWell, SetsCommitWell, DeclaresCommitWell, CommandsCommitWell, WritesCommitWell};
 ghost use Rattle.ct_machine_laws.specs.Keeping.{KeepsSound};
 
 /// A table that CREATE TABLE makes is one that may be defined, has the next id, and no table of the catalogue has its name.
@@ -46,6 +46,16 @@ pub fn parsed_are_spelled()
 /// the key, and each value that is put into a column is of the column's kind.
 pub fn writes_suit_their_table()
     ensures { WritesSuitTheirTable }
+{}
+
+/// What SET gives a variable is of the variable's kind.
+pub fn sets_suit_their_variable()
+    ensures { SetsSuitTheirVariable }
+{}
+
+/// What DECLARE gives a variable is of the variable's kind.
+pub fn declares_suit_their_variable()
+    ensures { DeclaresSuitTheirVariable }
 {}
 
 /// The opening of a valid database is sound.
@@ -108,9 +118,19 @@ pub fn selects_commit_well()
     ensures { SelectsCommitWell }
 {}
 
-/// A sentence of a form that is not built commits nothing.
-pub fn unbuilt_commits_well()
-    ensures { UnbuiltCommitsWell }
+/// BEGIN, COMMIT, ROLLBACK, levels and the lock limit commit nothing, since no transaction is open.
+pub fn transactions_commit_well()
+    ensures { TransactionsCommitWell }
+{}
+
+/// SET gives its variable a value of the variable's kind.
+pub fn sets_commit_well()
+    ensures { SetsCommitWell }
+{}
+
+/// DECLARE gives its variable a value of the variable's kind.
+pub fn declares_commit_well()
+    ensures { DeclaresCommitWell }
 {}
 
 /// A command of a script commits nothing, since none is built.

@@ -5,9 +5,11 @@
 mod laws;
 
 pub use laws::{
-    commands_commit_well, creates_apply, creates_commit_well, creates_definable, disables_apply,
-    disables_commit_well, enables_apply, enables_commit_well, entries_apply, keeps_sound,
-    opens_sound, parsed_are_spelled, plays_keep_valid, selects_commit_well, settings_apply,
-    settings_commit_well, sound_is_valid, stays_sound, truncates_apply, truncates_commit_well,
-    unbuilt_commits_well, writes_commit_well, writes_suit_their_table, wrong_commits_well,
+    commands_commit_well, creates_apply, creates_commit_well, creates_definable,
+    declares_commit_well, declares_suit_their_variable, disables_apply, disables_commit_well,
+    enables_apply, enables_commit_well, entries_apply, keeps_sound, opens_sound,
+    parsed_are_spelled, plays_keep_valid, selects_commit_well, sets_commit_well,
+    sets_suit_their_variable, settings_apply, settings_commit_well, sound_is_valid, stays_sound,
+    transactions_commit_well, truncates_apply, truncates_commit_well, writes_commit_well,
+    writes_suit_their_table, wrong_commits_well,
 };

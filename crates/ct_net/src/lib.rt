@@ -8,4 +8,4 @@ mod state;
 mod whole;
 
 pub use laws::changes_from_floor;
-pub use net::{net_of_kept, net_rows};
+pub use net::net_of_kept;

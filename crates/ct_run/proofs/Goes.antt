@@ -1,5 +1,5 @@
 -- How a play goes on, from one statement and one phase to the next.
-use Rattle.std.proofs.Common.{◌≡◌, ℕ, ◌+◌, ◌<◌, false, List, [], ◌∷◌, ◌++◌, length, get_or, take, refl, sym, ap, subst, ◌∙◌, append_assoc, append-nil, arith}
+use Rattle.std.proofs.Common.{◌≡◌, ℕ, ◌+◌, ◌<◌, false, List, [], ◌∷◌, ◌++◌, length, get_or, take, refl, sym, ap, subst, ◌∙◌, append-nil, arith}
 use Rattle.std.specs.List.{flat_map}
 use Rattle.std.proofs.lemmas.Grind.{common_steps, flat_map-append}
 use Rattle.std.proofs.lemmas.List.{take_more}
@@ -7,11 +7,12 @@ use Rattle.ct_model.specs.Apply.{no_db}
 use Rattle.ct_model_laws.proofs.InTurn.{no_db_valid}
 use Rattle.ct_core.specs.Stands.{CoreState, Stands}
 use Rattle.ct_types.specs.declared.command.Journaled.{Journaled}
-use Rattle.ct_machine.specs.Machine.{Machine, db_of, opening}
+use Rattle.ct_machine.specs.Machine.{Machine, opening}
 use Rattle.ct_machine.specs.Play.{Follows, IsPlay, end_of, is_memory}
 use Rattle.ct_machine.specs.Play as play
 use Rattle.ct_machine_laws.specs.Sound.{IsSound, StaySound}
 use Rattle.ct_machine.specs.Fits.{RowsFit}
+use Rattle.ct_machine.specs.Seen.{seen_by}
 use Rattle.ct_machine_laws.proofs.Soundness.{opens_sound}
 use Rattle.ct_script.specs.declared.script.Lane.{Lane}
 use Rattle.ct_script.specs.declared.script.Phase.{Phase}
@@ -28,20 +29,20 @@ use Rattle.ct_run.proofs.Commands.{means_spelled}
 
 IsPlay-append : (m : Machine) (journal more : List Journaled) → IsPlay m journal → IsPlay (end_of m journal) more → IsPlay m (journal ++ more)
 IsPlay-append m [] more here there = there
-IsPlay-append m (one ∷ journal) more here there = (here.0, IsPlay-append (play.after m one.what one.reply) journal more here.1 there)
+IsPlay-append m (one ∷ journal) more here there = (here.0, IsPlay-append (play.after m one.session one.what one.reply) journal more here.1 there)
 
 end_of-append : (m : Machine) (journal more : List Journaled) → end_of m (journal ++ more) ≡ end_of (end_of m journal) more
 end_of-append m [] more = refl
-end_of-append m (one ∷ journal) more = end_of-append (play.after m one.what one.reply) journal more
+end_of-append m (one ∷ journal) more = end_of-append (play.after m one.session one.what one.reply) journal more
 
 StaySound-append : (m : Machine) (journal more : List Journaled) → StaySound m journal → StaySound (end_of m journal) more → StaySound m (journal ++ more)
 StaySound-append m [] more here there = there
-StaySound-append m (one ∷ journal) more here there = (here.0, StaySound-append (play.after m one.what one.reply) journal more here.1 there)
+StaySound-append m (one ∷ journal) more here there = (here.0, StaySound-append (play.after m one.session one.what one.reply) journal more here.1 there)
 
 -- the machine at the end is one of them
 end_sound : (m : Machine) (journal : List Journaled) → StaySound m journal → IsSound (end_of m journal)
 end_sound m [] stay = stay
-end_sound m (one ∷ journal) stay = end_sound (play.after m one.what one.reply) journal stay.1
+end_sound m (one ∷ journal) stay = end_sound (play.after m one.session one.what one.reply) journal stay.1
 
 IsInOrder-append : (statements others : List Numbered) (journal more : List Journaled) → IsInOrder statements journal → IsInOrder others more → IsInOrder (statements ++ others) (journal ++ more)
 IsInOrder-append [] others [] more here there = there
@@ -108,15 +109,15 @@ module _ {D : Type 0} where
   goes_none made core = record { own = []; added = refl; in_order = tt; plays = λ m stands. (tt, stands); sound = λ m stands sound. sound }
 
   goes_one : (statement : Numbered) (old new : Growing) (one : Journaled) (before after : CoreState D) → new ≡ with_block old one → IsOf statement one
-      → ((m : Machine) → Stands before m → Follows m one.what one.reply) → ((m : Machine) → Stands before m → Stands after (play.after m one.what one.reply))
-      → ((m : Machine) → Stands before m → is_memory one.reply ≡ false → RowsFit (db_of m) one.what)
+      → ((m : Machine) → Stands before m → Follows m one.session one.what one.reply) → ((m : Machine) → Stands before m → Stands after (play.after m one.session one.what one.reply))
+      → ((m : Machine) → Stands before m → is_memory one.reply ≡ false → RowsFit (seen_by m (m.sessions one.session)) one.what)
       → Goes (statement ∷ []) old new before after
   goes_one statement old new one before after added is follows stands fits = record {
     own = one ∷ [];
     added = added;
     in_order = (is, tt);
     plays = λ m s. ((follows m s, tt), stands m s);
-    sound = λ m s sound. (sound, keeps_sound m one.what one.reply sound (means_spelled statement.text one.what is.means) (fits m s));
+    sound = λ m s sound. (sound, keeps_sound m one.session one.what one.reply sound (means_spelled statement.text one.what is.means) (fits m s));
   }
 
   pub goes_on : (statements others : List Numbered) (old mid new : Growing) (before between after : CoreState D)
@@ -140,8 +141,8 @@ module _ {D : Type 0} where
       → i < length lane.statements → text ≡ get_or lane.statements i text
       → Goes (numbered_from lane.session lane.first (take i lane.statements)) old mid before between
       → new ≡ with_block mid one → IsOf (record { session = lane.session; number = lane.first + i; text = text }) one
-      → ((m : Machine) → Stands between m → Follows m one.what one.reply) → ((m : Machine) → Stands between m → Stands after (play.after m one.what one.reply))
-      → ((m : Machine) → Stands between m → is_memory one.reply ≡ false → RowsFit (db_of m) one.what)
+      → ((m : Machine) → Stands between m → Follows m one.session one.what one.reply) → ((m : Machine) → Stands between m → Stands after (play.after m one.session one.what one.reply))
+      → ((m : Machine) → Stands between m → is_memory one.reply ≡ false → RowsFit (seen_by m (m.sessions one.session)) one.what)
       → Goes (numbered_from lane.session lane.first (take (i + 1) lane.statements)) old new before after
   goes_statement lane i text old mid new one before between after inside is goes added of follows stands fits =
       subst (λ statements. Goes statements old new before after) (sym (numbered_more lane i text inside is))

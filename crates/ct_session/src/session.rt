@@ -14,8 +14,8 @@ use ct_types::{
 use std::alloc::Global;
 use std::marker::Model;
 
-/// A session, which contracts see as one record: its number, the level of the transactions that begin from now on, its
-/// variables, its transaction with the writes that wait for the commit and with its number, and the room for more writes.
+/// A session, which contracts see as its number, its state, and the room for more writes. The state has the level of the
+/// transactions that begin from now on, the variables, and the transaction with its number and the writes that wait for the commit.
 #[derive(Drop)]
 pub struct Session {
     alloc: Global,
@@ -29,11 +29,11 @@ pub struct Session {
 
 impl Model for Session {
     ghost use Rattle.std.specs.Prelude.{◌-◌, vec_len, vec_capacity};
-    ghost use Rattle.ct_session.specs.Sessions.{SessionState};
+    ghost use Rattle.ct_session.specs.Sessions.{SessionState, Seated};
 
-    ghost Value = { SessionState };
+    ghost Value = { Seated };
 
-    ghost view = { λ it. record { number = it.number; snapshot = it.snapshot; variables = it.variables.0; tran = it.tran; pending = it.pending.items; xdes = it.xdes; room = vec_capacity it.pending - vec_len it.pending } };
+    ghost view = { λ it. record { number = it.number; state = record { snapshot = it.snapshot; variables = it.variables.0; tran = it.tran; pending = it.pending.items; xdes = it.xdes }; room = vec_capacity it.pending - vec_len it.pending } };
 }
 
 impl Session {
@@ -41,7 +41,7 @@ impl Session {
     ///
     /// T-SQL: SET TRANSACTION ISOLATION LEVEL has READ COMMITTED as its default.
     pub fn new(alloc: Global, number: u8) -> Result<Session, Memory>
-        ensures { IfOk result (λ made. made ≡ fresh number) }
+        ensures { IfOk result (λ made. made ≡ record { number = number; state = fresh; room = 0 }) }
     {
         Ok(Session {
             alloc,
@@ -65,8 +65,8 @@ impl Session {
     ///
     /// T-SQL: BEGIN TRANSACTION. That transactions do not nest is this project's own.
     pub fn begin(&mut self) -> Result<(), Refusal>
-        ensures answers { result ≡ demand (not (is_open self.old.tran)) InTransaction }
-        ensures ok { OnOk result (self.new ≡ record self.old { tran = begun self.old.snapshot }) }
+        ensures answers { result ≡ demand (not (is_open self.old.state.tran)) InTransaction }
+        ensures ok { OnOk result (self.new ≡ record self.old { state = record self.old.state { tran = begun self.old.state.snapshot } }) }
         ensures err { OnErr result (self.new ≡ self.old) }
     {
         if !matches!(self.tran, Tran::None) {
@@ -85,7 +85,7 @@ impl Session {
     ///
     /// T-SQL: COMMIT TRANSACTION, ROLLBACK TRANSACTION.
     pub fn end(&mut self)
-        ensures { self.new ≡ ended self.old }
+        ensures { self.new ≡ record { number = self.old.number; state = ended self.old.state; room = 0 } }
     {
         self.tran = Tran::None;
         self.pending = Vec::new(self.alloc);
@@ -107,7 +107,7 @@ impl Session {
     /// Adds a write behind those that wait. Want of memory hands it back, and the session is as before; it comes only where no
     /// room was reserved. This project's own.
     pub fn pend(&mut self, write: Write) -> Result<(), (Write, Memory)>
-        ensures ok { OnOk result (self.new ≡ pended self.old write self.new.room) }
+        ensures ok { OnOk result (self.new ≡ record { number = self.old.number; state = pended self.old.state (write ∷ []); room = self.new.room }) }
         ensures room { OnOk result (self.old.room ≤ self.new.room + 1) }
         ensures err { OnErr result (self.new ≡ self.old) }
         ensures full { OnErr result (self.old.room ≡ 0) }
@@ -124,7 +124,7 @@ impl Session {
 
     /// The writes that wait, in their order.
     pub fn pending(&self) -> &[Write]
-        ensures { result.now ≡ self.now.pending }
+        ensures { result.now ≡ self.now.state.pending }
     {
         self.pending.as_slice()
     }
@@ -134,8 +134,8 @@ impl Session {
     ///
     /// T-SQL: SET @local_variable.
     pub fn set(&mut self, name: &Text, value: Value) -> Result<(), Refusal>
-        ensures answers { Gives (may_set self.old.variables name.now) result }
-        ensures ok { OnOk result (self.new ≡ record self.old { variables = with_value self.old.variables name.now value }) }
+        ensures answers { Gives (may_set self.old.state.variables name.now) result }
+        ensures ok { OnOk result (self.new ≡ record self.old { state = record self.old.state { variables = with_value self.old.state.variables name.now value } }) }
         ensures err { OnErr result (self.new ≡ self.old) }
     {
         match place_of(self.variables.0.as_slice(), name) {
@@ -155,8 +155,8 @@ impl Session {
     ///
     /// T-SQL: DECLARE @local_variable.
     pub fn declare(&mut self, name: Text, kind: ColType, value: Value) -> Result<(), Refusal>
-        ensures answers { Gives (may_declare self.old.variables name) result }
-        ensures ok { OnOk result (self.new ≡ record self.old { variables = with_variable self.old.variables name kind value }) }
+        ensures answers { Gives (may_declare self.old.state.variables name) result }
+        ensures ok { OnOk result (self.new ≡ record self.old { state = record self.old.state { variables = with_variable self.old.state.variables name kind value } }) }
         ensures err { OnErr result (self.new ≡ self.old) }
     {
         if is_declared(self.variables.0.as_slice(), &name) {
@@ -172,14 +172,14 @@ impl Session {
     ///
     /// T-SQL: SET TRANSACTION ISOLATION LEVEL. That it is taken inside a transaction is this project's own.
     pub fn isolate(&mut self, snapshot: bool)
-        ensures { self.new ≡ record self.old { snapshot = snapshot } }
+        ensures { self.new ≡ record self.old { state = record self.old.state { snapshot = snapshot } } }
     {
         self.snapshot = snapshot;
     }
 
     /// The transaction, if one is open, with its level and view.
     pub fn tran(&self) -> Tran
-        ensures { result ≡ self.now.tran }
+        ensures { result ≡ self.now.state.tran }
     {
         self.tran
     }
@@ -187,30 +187,30 @@ impl Session {
     /// Takes the view that the transaction reads from. The caller sees to it that it is a SNAPSHOT one without a view. This
     /// project's own.
     pub fn take_view(&mut self, view: View)
-        requires { self.old.tran ≡ tran.Snapshot }
-        ensures { self.new ≡ record self.old { tran = tran.Viewed view } }
+        requires { self.old.state.tran ≡ tran.Snapshot }
+        ensures { self.new ≡ record self.old { state = record self.old.state { tran = tran.Viewed view } } }
     {
         self.tran = Tran::Viewed(view);
     }
 
     /// Takes the transaction's number. The caller sees to it that there is none yet. This project's own.
     pub fn draw(&mut self, xdes: u64)
-        requires { self.old.xdes ≡ None }
-        ensures { self.new ≡ record self.old { xdes = Some xdes } }
+        requires { self.old.state.xdes ≡ None }
+        ensures { self.new ≡ record self.old { state = record self.old.state { xdes = Some xdes } } }
     {
         self.xdes = Some(xdes);
     }
 
     /// The transaction's number, None before its first write.
     pub fn xdes(&self) -> Option<u64>
-        ensures { result ≡ self.now.xdes }
+        ensures { result ≡ self.now.state.xdes }
     {
         self.xdes
     }
 
     /// The variables, in the order in which they were declared.
     pub fn variables(&self) -> &Variables
-        ensures { result.now.0 ≡ self.now.variables }
+        ensures { result.now.0 ≡ self.now.state.variables }
     {
         &self.variables
     }

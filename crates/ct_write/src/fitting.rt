@@ -9,9 +9,13 @@ use crate::changes::Changed;
 use ct_types::{Column, Copies, Misfit, Refusal, Row, Value, fits};
 use std::alloc::Global;
 
-/// Whether a value fits its column.
+/// Whether a value fits its column. `NotNull` for NULL in a column that may not be NULL, `Overflow` for a number outside 32
+/// bits in an INT column, `TooLong` for a text or bytes longer than the column allows; the first and the last name the column.
+/// `Memory` is the only other error.
+///
+/// SQL Server's 515 and 8115. That too long a value answers 8152 with the column's name is this project's own.
 #[tactic(auto, using(crate::proofs::Fits::fit_steps))]
-fn fit(alloc: Global, column: &Column, value: &Value) -> Result<(), Refusal>
+pub fn fit_value(alloc: Global, column: &Column, value: &Value) -> Result<(), Refusal>
     ensures gives { Gives (spec.fit column.now value.now) result }
     ensures fits { OnOk result (Fits column.now value.now) }
 {
@@ -36,7 +40,7 @@ fn fit_values(alloc: Global, columns: &[Column], values: &[Value]) -> Result<(),
         [column, columns @ ..] => match values {
             [] => Ok(()),
             [value, values @ ..] => {
-                fit(alloc, column, value)?;
+                fit_value(alloc, column, value)?;
                 fit_values(alloc, columns, values)
             }
         },

@@ -12,5 +12,6 @@ mod statement;
 mod values;
 
 pub use duplicates::duplicate;
+pub use fitting::fit_value;
 pub use laws::{are_accepted, deletes_all, updates_keep_keys};
 pub use statement::writes;

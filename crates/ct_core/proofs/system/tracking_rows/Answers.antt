@@ -1,4 +1,4 @@
-use Rattle.std.proofs.Common.{◌≡◌, ◌∷◌, [], ◌∙◌, ap, arith, take, sym}
+use Rattle.std.proofs.Common.{◌∷◌, [], ◌∙◌, ap, arith, take, sym}
 use Rattle.std.specs.List.{filter_map}
 use Rattle.std.proofs.lemmas.List.Elements.{filter_map-append}
 use Rattle.ct_scan.proofs.Asked.{upto_next}
