@@ -1,9 +1,9 @@
-ghost use Rattle.std.specs.Prelude.{◌≡◌, ◌==◌, false, OnOk, OnErr};
+ghost use Rattle.std.specs.Prelude.{◌==◌, false, OnOk};
 ghost use Rattle.std.specs.List.{list_any};
 ghost use Rattle.ct_conflicts.specs.Conflicts.{is_on, alters, writes_key};
 ghost use Rattle.ct_conflicts.specs.Stamped.{IsStamped};
 
-use crate::stamps::{Stamp, TableStamps, place_of, shares};
+use crate::stamps::{Stamp, TableStamps, place_of};
 use ct_types::{Act, Copies, Memory, Write};
 use std::alloc::Global;
 
@@ -37,31 +37,14 @@ fn stamp_keys(
     Ok(())
 }
 
-/// Stamps the keys of a commit, all of them or, for want of memory, none.
-fn stamp_commit(
-    alloc: Global,
-    later: &mut Vec<TableStamps>,
-    stamp: Stamp,
-    writes: &[Write],
-) -> Result<(), Memory>
-    ensures ok { OnOk result (IsStamped later.new.items later.old.items stamp (λ table key. list_any (is_on table key) writes.now) (λ table. false)) }
-    ensures err { OnErr result (later.new.items ≡ later.old.items) }
-{
-    let mut made = shares(alloc, later.as_slice())?;
-    stamp_keys(alloc, &mut made, stamp, writes)?;
-    *later = made;
-    Ok(())
-}
-
-/// Stamps a table. Want of memory leaves all as it was.
+/// Stamps a table.
 fn stamp_table(
     alloc: Global,
     later: &mut Vec<TableStamps>,
     stamp: Stamp,
     table: u32,
 ) -> Result<(), Memory>
-    ensures ok { OnOk result (IsStamped later.new.items later.old.items stamp (λ other key. false) (λ other. table == other)) }
-    ensures err { OnErr result (later.new.items ≡ later.old.items) }
+    ensures { OnOk result (IsStamped later.new.items later.old.items stamp (λ other key. false) (λ other. table == other)) }
 {
     let place = place_of(alloc, later, table)?;
     let stamps = &mut later[place];
@@ -69,18 +52,17 @@ fn stamp_table(
     Ok(())
 }
 
-/// Stamps what an act changes. Want of memory leaves all as it was.
+/// Stamps what an act changes. Want of memory leaves some of it stamped.
 pub(crate) fn stamp_act(
     alloc: Global,
     later: &mut Vec<TableStamps>,
     stamp: Stamp,
     act: &Act,
 ) -> Result<(), Memory>
-    ensures ok { OnOk result (IsStamped later.new.items later.old.items stamp (λ table key. writes_key table key act.now) (λ table. alters table act.now)) }
-    ensures err { OnErr result (later.new.items ≡ later.old.items) }
+    ensures { OnOk result (IsStamped later.new.items later.old.items stamp (λ table key. writes_key table key act.now) (λ table. alters table act.now)) }
 {
     match act {
-        Act::Commit(writes) => stamp_commit(alloc, later, stamp, writes.as_slice()),
+        Act::Commit(writes) => stamp_keys(alloc, later, stamp, writes.as_slice()),
         Act::Define(schema) => stamp_table(alloc, later, stamp, schema.id),
         Act::Truncate(table) => stamp_table(alloc, later, stamp, *table),
         Act::Enable { table, .. } => stamp_table(alloc, later, stamp, *table),

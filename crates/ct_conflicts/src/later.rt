@@ -1,10 +1,10 @@
-ghost use Rattle.std.specs.Prelude.{◌≡◌, ℕ, ◌+◌, ◌≤◌, ◌++◌, ◌∷◌, [], List, length, drop, OnOk, OnErr};
+ghost use Rattle.std.specs.Prelude.{◌≡◌, ℕ, ◌+◌, ◌≤◌, ◌++◌, ◌∷◌, [], List, length, drop, IfOk, OnOk, OnErr};
 ghost use Rattle.ct_types.specs.declared.entry.Entry.{Entry};
 ghost use Rattle.ct_conflicts.specs.Conflicts.{conflicting};
 ghost use Rattle.ct_conflicts.specs.Later.{IsLater};
 
 use crate::acts::stamp_act;
-use crate::stamps::{Stamp, TableStamps, altered_after, first_written};
+use crate::stamps::{Stamp, TableStamps, altered_after, first_written, shares};
 use ct_types::{Entry, Memory, Write};
 use std::alloc::Global;
 use std::marker::Model;
@@ -40,19 +40,36 @@ impl Later {
         }
     }
 
-    /// Notes an entry by its place, counted from 1, behind those that were noted. `Memory` is the only error, and all is then as
-    /// before.
+    /// What is kept with an entry more, by its place, counted from 1, behind those that were noted; what was kept stays as it is.
+    /// `Memory` is the only error.
     ///
     /// A commit costs a look-up for each of its writes, and a pointer for each table of which a change is kept.
-    pub fn note(&mut self, at: u64, entry: &Entry) -> Result<(), Memory>
-        ensures ok { OnOk result ((past : List Entry) (from : ℕ) → at ≡ length past + 1 → IsLater self.old past from → IsLater self.new (past ++ entry.now ∷ []) from) }
-        ensures err { OnErr result (self.new ≡ self.old) }
+    pub fn noted(&self, at: u64, entry: &Entry) -> Result<Later, Memory>
+        ensures { IfOk result (λ made. (past : List Entry) (from : ℕ) → at ≡ length past + 1 → IsLater self.now past from → IsLater made (past ++ entry.now ∷ []) from) }
     {
         let stamp = Stamp {
             at,
             xdes: entry.xdes,
         };
-        stamp_act(self.alloc, &mut self.tables, stamp, &entry.act)
+        let mut tables = shares(self.alloc, self.tables.as_slice())?;
+        stamp_act(self.alloc, &mut tables, stamp, &entry.act)?;
+        Ok(Later {
+            alloc: self.alloc,
+            tables,
+        })
+    }
+
+    /// Notes an entry by its place, counted from 1, behind those that were noted. `Memory` is the only error, and all is then as
+    /// before.
+    ///
+    /// It costs what [`Later::noted`] does.
+    pub fn note(&mut self, at: u64, entry: &Entry) -> Result<(), Memory>
+        ensures ok { OnOk result ((past : List Entry) (from : ℕ) → at ≡ length past + 1 → IsLater self.old past from → IsLater self.new (past ++ entry.now ∷ []) from) }
+        ensures err { OnErr result (self.new ≡ self.old) }
+    {
+        let made = self.noted(at, entry)?;
+        *self = made;
+        Ok(())
     }
 
     /// The transaction, by its number, that a statement of a transaction with this view conflicts with: the last one that altered

@@ -1,9 +1,14 @@
+pub mod Committing
+pub mod Deciding
+pub mod Keeping
 pub mod Narrow
-pub mod Naming
 pub mod Ranges
 pub mod Rows
-pub mod Seating
 pub mod Standing
 pub mod Storing
-pub mod Unblocked
+pub mod Suiting
+pub mod Turning
 pub mod Worlds
+pub mod Viewing
+pub mod Pending
+pub mod Fronts

@@ -33,16 +33,16 @@ renumbered : (f : Table → Table) → ((table : Table) → (f table).schema ≡
 renumbered f keeps id [] numbered = tt
 renumbered f keeps id (table ∷ tables) numbered = (rw (keeps table) numbered.0, renumbered f keeps (id + 1) tables numbered.1)
 
-written_keeps : (write : Write) (table : Table) → (written write table).schema ≡ table.schema
+pub written_keeps : (write : Write) (table : Table) → (written write table).schema ≡ table.schema
 written_keeps write table = chosen (table.schema.id == write.table) _ table refl
 
-tracked_keeps : (id : ℕ) (tracked : Option Tracked) (table : Table) → (tracked_as id tracked table).schema ≡ table.schema
+pub tracked_keeps : (id : ℕ) (tracked : Option Tracked) (table : Table) → (tracked_as id tracked table).schema ≡ table.schema
 tracked_keeps id tracked table = chosen (table.schema.id == id) _ table refl
 
-truncated_keeps : (id version : ℕ) (draws : Bool) (table : Table) → (truncated id version draws table).schema ≡ table.schema
+pub truncated_keeps : (id version : ℕ) (draws : Bool) (table : Table) → (truncated id version draws table).schema ≡ table.schema
 truncated_keeps id version draws table = chosen (table.schema.id == id) _ table refl
 
-raised_keeps : (listed : Min) (table : Table) → (raised listed table).schema ≡ table.schema
+pub raised_keeps : (listed : Min) (table : Table) → (raised listed table).schema ≡ table.schema
 raised_keeps listed table = chosen (table.schema.id == listed.table) _ table refl
 
 -- ---- acts

@@ -1,36 +1,21 @@
 -- A statement that a core settles is taken in each machine for which the core stands.
-use Rattle.std.proofs.Common.{◌≡◌, ℕ, Bool, true, false, cond, Result, Ok, Err, IfOk, refl, sym, ap, subst, ◌∙◌}
+use Rattle.std.proofs.Common.{◌≡◌, ℕ, nat_le, Bool, true, false, cond, Result, Ok, Err, IfOk, refl, sym, ap, subst, ◌∙◌}
 use Rattle.ct_types.specs.declared.command.Command.{Command}
-use Rattle.ct_types.specs.declared.command.Command.TheVariants.{Sql}
 use Rattle.ct_types.specs.declared.memory.Memory.{Memory}
 use Rattle.ct_types.specs.declared.refusal.Refusal.TheVariants.{Exhausted}
 use Rattle.ct_types.specs.declared.reply.Reply.{Reply}
 use Rattle.ct_types.specs.declared.reply.Reply.TheVariants.{Refused}
+use Rattle.ct_model.specs.declared.db.Db.{Db}
 use Rattle.ct_session.specs.Sessions.{SessionState}
 use Rattle.ct_machine.specs.declared.decision.Decision.{Decision}
 use Rattle.ct_machine.specs.declared.decision.Decision.TheVariants.{Refuses, Aborts, Answers, Commits, Pends, Begins, Ends, Isolates, Sets, Declares}
 use Rattle.ct_machine.specs.Decide.{decide}
 use Rattle.ct_machine.specs.Machine.{Machine}
 use Rattle.ct_machine.specs.Play.{after, is_memory}
-use Rattle.ct_machine.specs.Seen.{Seen, seen_by, takes_view, tran_viewing}
-use Rattle.ct_machine.specs.Step.{changed, entry_of, has_room, most_number, reply_of, settled, step, viewed}
-use Rattle.ct_core.specs.Alone.{decided_alone}
-use Rattle.ct_core.specs.Range.{AreClosed, DecisionIsKept, IsClosed}
-use Rattle.ct_core.specs.Stands.{CoreState, IsSettled, IsTaken, Stands, seen_in}
-use Rattle.ct_core.proofs.Unblocked.{decided_so, seen_closed}
-
--- ---- a closed session takes no view
-
-viewed_closed : (m : Machine) (what : Command) (session : SessionState) → IsClosed session → viewed m what session ≡ session
-viewed_closed m (Sql statement) session closed = by (takes_view statement)
-  where
-    same : record session { tran = tran_viewing m session.tran } ≡ session
-    same = ap (λ it. record session { tran = tran_viewing m it }) closed.tran ∙ sym (ap (λ it. record session { tran = it }) closed.tran)
-
-    by : (test : Bool) → cond test (record session { tran = tran_viewing m session.tran }) session ≡ session
-    by true = same
-    by false = refl
-viewed_closed m other session closed = refl
+use Rattle.ct_machine.specs.Step.{decision_of, entry_of, has_room, machine_after, most_number, reply_of, settled, xdes_or}
+use Rattle.ct_core.specs.Range.{DecisionIsKept}
+use Rattle.ct_core.specs.Settling.{IsSettled, IsTaken, StaysFor}
+use Rattle.ct_core.specs.Stands.{CoreState, Stands}
 
 -- ---- want of memory is told of no decision that changes the machine
 
@@ -38,60 +23,54 @@ same : (b : Bool) (m : Machine) → cond b m m ≡ m
 same true m = refl
 same false m = refl
 
-told : (seen : Seen) (m : Machine) (s : ℕ) (session : SessionState) (d : Decision) → DecisionIsKept seen d
-    → cond (is_memory (reply_of (settled m (m.sessions s) d))) m (changed m s session (settled m (m.sessions s) d)) ≡ changed m s session (settled m (m.sessions s) d)
-told seen m s session (Refuses refusal) kept = same (is_memory (Refused refusal)) m
-told seen m s session (Aborts refusal) kept = absurd kept
-told seen m s session (Answers reply) kept = rw kept refl
-told seen m s session (Commits act reply) kept = by (has_room (entry_of m (m.sessions s) act))
-  where
-    by : (room : Bool) → let d : Decision = cond room (Commits act reply) (Refuses (Exhausted most_number)) in cond (is_memory (reply_of d)) m (changed m s session d) ≡ changed m s session d
-    by true = rw kept.told refl
-    by false = refl
-told seen m s session (Pends writes reply) kept = absurd kept
-told seen m s session Begins kept = absurd kept
-told seen m s session Ends kept = refl
-told seen m s session (Isolates snapshot) kept = refl
-told seen m s session (Sets name value) kept = refl
-told seen m s session (Declares name kind value) kept = refl
+module _ (newest db : Db) (state : SessionState) (m : Machine) (s : ℕ) (what : Command) where
+  abbrev Told : Decision → Type 0
+  Told d = cond (is_memory (reply_of d)) m (machine_after m s what d) ≡ machine_after m s what d
+
+  told : (d : Decision) → DecisionIsKept newest db state d → Told (settled m (m.sessions s) d)
+  told (Refuses refusal) kept = same (is_memory (Refused refusal)) m
+  told (Aborts refusal) kept = rw kept refl
+  told (Answers reply) kept = rw kept refl
+  told (Commits act reply) kept = by (has_room (entry_of m (m.sessions s) act))
+    where
+      by : (room : Bool) → Told (cond room (Commits act reply) (Refuses (Exhausted most_number)))
+      by true = rw kept.told refl
+      by false = refl
+  told (Pends writes reply) kept = by (nat_le (xdes_or m.next (m.sessions s).xdes) most_number)
+    where
+      by : (room : Bool) → Told (cond room (Pends writes reply) (Refuses (Exhausted most_number)))
+      by true = rw kept.told refl
+      by false = refl
+  told Begins kept = refl
+  told Ends kept = refl
+  told (Isolates snapshot) kept = refl
+  told (Sets name value) kept = refl
+  told (Declares name kind value) kept = refl
 
 module _ {D : Type 0} where
-  -- ---- a core and its machines
-
-  -- the sessions are closed there too
-  closed_in : (core : CoreState D) (m : Machine) → Stands core m → AreClosed core.sessions → (number : ℕ) → IsClosed (m.sessions number)
-  closed_in core m stands closed number = subst IsClosed (stands.sessions number) (closed number)
-
-  -- a session sees there what it sees in the core
-  pub seen_so : (core : CoreState D) (m : Machine) (s : ℕ) → Stands core m → AreClosed core.sessions → seen_by m (m.sessions s) ≡ seen_in core s
-  seen_so core m s stands closed =
-      seen_closed m (m.sessions s) (closed_in core m stands closed s)
-      ∙ ap (λ db. record { db = db; variables = (m.sessions s).variables }) (sym stands.db)
-      ∙ ap (λ (state : SessionState). record { db = core.db; variables = state.variables }) (sym (stands.sessions s))
-
-  -- ---- a statement that is taken
-
-  taken : (core core' : CoreState D) (m : Machine) (s : ℕ) (what : Command) (d : Decision) (shown : Reply) → Stands core m → AreClosed core.sessions
-      → d ≡ decided_alone (seen_in core s) what → DecisionIsKept (seen_in core s) d → IsSettled m s d shown core' → IsTaken m s what shown core'
-  taken core core' m s what d shown stands closed is kept settles =
-      let session : SessionState = m.sessions s in
-      let every = closed_in core m stands closed in
-      let came : decide m s what ≡ d = decided_so m every s what ∙ ap (λ seen. decided_alone seen what) (seen_so core m s stands closed) ∙ sym is in
-      let views : viewed m what session ≡ session = viewed_closed m what session (every s) in
-      let steps : (step m s what).0 ≡ changed m s session (settled m session d) =
-      ap (λ it. changed m s it (settled m session (decide m s what))) views ∙ ap (λ it. changed m s session (settled m session it)) came in
-      let replies : shown ≡ (step m s what).1 = settles.reply ∙ ap (λ it. reply_of (settled m session it)) (sym came) in
-      let shows : after m s what shown ≡ changed m s session (settled m session d) =
-      ap (λ machine. cond (is_memory shown) m machine) steps ∙ ap (λ reply. cond (is_memory reply) m (changed m s session (settled m session d))) settles.reply
-      ∙ told (seen_in core s) m s session d kept in
-      record {
-        reply = replies;
-        stands = subst (Stands core') (sym shows) settles.stands;
-      }
+  taken : (newest db : Db) (state : SessionState) (core' : CoreState D) (m : Machine) (s : ℕ) (what : Command) (d : Decision) (shown : Reply)
+      → d ≡ decide m s what → DecisionIsKept newest db state d → IsSettled m s what d shown core' → IsTaken m s what shown core'
+  taken newest db state core' m s what d shown is kept settles =
+      let own : settled m (m.sessions s) d ≡ decision_of m s what = ap (settled m (m.sessions s)) is in
+      let reply : shown ≡ reply_of (decision_of m s what) = settles.reply ∙ ap reply_of own in
+      let shows : after m s what shown ≡ machine_after m s what (settled m (m.sessions s) d) =
+      ap (λ machine. cond (is_memory shown) m machine) (ap (machine_after m s what) (sym own))
+      ∙ ap (λ it. cond (is_memory it) m (machine_after m s what (settled m (m.sessions s) d))) settles.reply
+      ∙ told newest db state m s what d kept in
+      record { reply = reply; stands = subst (Stands core') (sym shows) settles.stands }
 
   -- the same of what is answered, where memory sufficed
-  pub taken_if : (core core' : CoreState D) (s : ℕ) (what : Command) (d : Decision) (result : Result Reply Memory) → AreClosed core.sessions
-      → d ≡ decided_alone (seen_in core s) what → DecisionIsKept (seen_in core s) d → IfOk result (λ shown. (m : Machine) → Stands core m → IsSettled m s d shown core')
+  pub taken_if : (core before core' : CoreState D) (newest db : Db) (state : SessionState) (s : ℕ) (what : Command) (d : Decision) (result : Result Reply Memory) → StaysFor core before
+      → ((m : Machine) → Stands before m → d ≡ decide m s what) → DecisionIsKept newest db state d
+      → IfOk result (λ shown. (m : Machine) → Stands before m → IsSettled m s what d shown core')
       → IfOk result (λ reply. (m : Machine) → Stands core m → IsTaken m s what reply core')
-  taken_if core core' s what d (Ok shown) closed is kept settles = λ m stands. taken core core' m s what d shown stands closed is kept (settles m stands)
-  taken_if core core' s what d (Err memory) closed is kept settles = tt
+  taken_if core before core' newest db state s what d (Ok shown) stays is kept settles =
+      λ m stands. taken newest db state core' m s what d shown (is m (stays m stands)) kept (settles m (stays m stands))
+  taken_if core before core' newest db state s what d (Err memory) stays is kept settles = tt
+
+  -- a commit is settled whatever the statement
+  pub settled_if : (core core' : CoreState D) (s : ℕ) (what : Command) (d came : Decision) (result : Result Reply Memory) → d ≡ came
+      → IfOk result (λ shown. (m : Machine) (any : Command) → Stands core m → IsSettled m s any came shown core')
+      → IfOk result (λ shown. (m : Machine) → Stands core m → IsSettled m s what d shown core')
+  settled_if core core' s what d came (Ok shown) is settles = λ m stands. subst (λ (it : Decision). IsSettled m s what it shown core') (sym is) (settles m what stands)
+  settled_if core core' s what d came (Err memory) is settles = tt

@@ -29,16 +29,17 @@ use Rattle.ct_bind_kind_laws.specs.Storing.{StoresWell}
 use Rattle.ct_bind_kind_laws.specs.Storing as bound
 use Rattle.ct_bind_kind_laws.proofs.Sound.{ids_distinct}
 use Rattle.ct_bind_kind_laws.proofs.Storing.{bound_store_well}
-use Rattle.ct_database.specs.Storable.{IsActStorable, IsStorable, IsWriteStorable, IsRowStorable}
+use Rattle.std.specs.Option.{IsSomeAnd}
+use Rattle.ct_database.specs.Storable.{IsActStorable, IsStorable, IsRowStorable}
+use Rattle.ct_database.specs.Waiting.{AreStoredIn, IsStoredIn}
 use Rattle.ct_expr.specs.Meaning.{World}
 use Rattle.ct_machine.specs.Reads.{catalogue}
 use Rattle.ct_machine.specs.Step.{act_draws, entry_of}
-use Rattle.ct_session.specs.Sessions.{fresh}
 use Rattle.ct_source.specs.Rows.{IsRowOf}
 use Rattle.ct_write.specs.Writes.{Context, SparesKey, write_of, writes_of}
 use Rattle.ct_write.proofs.Parts.{parts_of}
-use Rattle.ct_core.specs.Range.{AreStorable, HasTables}
-use Rattle.ct_core.proofs.Ranges.{machine_at}
+use Rattle.ct_core.specs.Range.{HasTables}
+use Rattle.ct_core.proofs.Ranges.{machine_at, session_with}
 
 -- ---- what is bound
 
@@ -93,28 +94,28 @@ record IsOf (table : Table) (one : Write) : Type 0 where
   id : one.table ≡ table.schema.id
   stands : IfSome one.row (IsRowOf table.schema one.key)
 
-write_storable : (tables : List Table) (table : Table) (one : Write) → table_of tables table.schema.id ≡ Some table → IsOf table one → IsWriteStorable tables one
-write_storable tables table one there is =
-    subst (λ (found : Option Table). IfSome found (λ it. IsRowStorable it.schema one.key one.row)) (sym there ∙ ap (table_of tables) (sym is.id)) (row_storable table.schema one.key one.row is.stands)
+write_stored : (tables : List Table) (table : Table) (one : Write) → table_of tables table.schema.id ≡ Some table → IsOf table one → IsStoredIn tables one
+write_stored tables table one there is =
+    subst (λ (found : Option Table). IsSomeAnd found (λ it. IsRowStorable it.schema one.key one.row)) (sym there ∙ ap (table_of tables) (sym is.id)) (row_storable table.schema one.key one.row is.stands)
 
 recorded_of : (table : Table) (change : RowChange) (context : Context) (changes : List _) → AllByRecursion (λ one. one.table ≡ table.schema.id) (map (write_of (catalogued table) change context) changes)
 recorded_of table change context [] = tt
 recorded_of table change context (changed ∷ changes) = (refl, recorded_of table change context changes)
 
-all_storable : (tables : List Table) (table : Table) → table_of tables table.schema.id ≡ Some table → (writes : List Write) → AllByRecursion (λ one. one.table ≡ table.schema.id) writes
-    → AllByRecursion (λ one. IfSome one.row (IsRowOf table.schema one.key)) writes → AllByRecursion (IsWriteStorable tables) writes
-all_storable tables table there [] ids stand = tt
-all_storable tables table there (one ∷ writes) ids stand = (write_storable tables table one there (record { id = ids.0; stands = stand.0 }), all_storable tables table there writes ids.1 stand.1)
+all_stored : (tables : List Table) (table : Table) → table_of tables table.schema.id ≡ Some table → (writes : List Write) → AllByRecursion (λ one. one.table ≡ table.schema.id) writes
+    → AllByRecursion (λ one. IfSome one.row (IsRowOf table.schema one.key)) writes → AreStoredIn tables writes
+all_stored tables table there [] ids stand = tt
+all_stored tables table there (one ∷ writes) ids stand = (write_stored tables table one there (record { id = ids.0; stands = stand.0 }), all_stored tables table there writes ids.1 stand.1)
 
--- what a statement writes in its table is storable
-pub writes_storable : (w : World) (db : Db) (bound : BoundWrite) (table : Table) (writes : List Write) → table_of db.tables bound.table ≡ Some table
-    → writes_of w (catalogued table) bound table.rows ≡ Ok writes → AllByRecursion (λ one. IfSome one.row (IsRowOf table.schema one.key)) writes → AreStorable db writes
-writes_storable w db bound table writes there came stand =
+-- what a statement writes in its table can be stored there
+pub writes_stored : (w : World) (db : Db) (bound : BoundWrite) (table : Table) (writes : List Write) → table_of db.tables bound.table ≡ Some table
+    → writes_of w (catalogued table) bound table.rows ≡ Ok writes → AllByRecursion (λ one. IfSome one.row (IsRowOf table.schema one.key)) writes → AreStoredIn db.tables writes
+writes_stored w db bound table writes there came stand =
     let own : table_of db.tables table.schema.id ≡ Some table = ap (table_of db.tables) (has_id db.tables bound.table table there) ∙ there in
     let parts = parts_of w (catalogued table) bound table.rows writes came in
     let ids : AllByRecursion (λ one. one.table ≡ table.schema.id) writes =
     subst (AllByRecursion (λ one. one.table ≡ table.schema.id)) parts.writes_are (recorded_of table bound.change parts.context parts.changes) in
-    all_storable db.tables table own writes ids stand
+    all_stored db.tables table own writes ids stand
 
 -- ---- entries
 
@@ -123,5 +124,5 @@ drawn true version = omega arith
 drawn false version = omega arith
 
 -- the entry of a storable act is storable
-pub entry_storable : (db : Db) (now next : ℕ) (act : Act) (entry : Entry) → IsActStorable db.tables act → entry ≡ entry_of (machine_at db now next) fresh act → IsStorable db entry
-entry_storable db now next act entry storable is = subst (IsStorable db) (sym is) (record { act = storable; version = drawn (act_draws db act) db.version })
+pub entry_storable : (db : Db) (now next : ℕ) (drawn : Option ℕ) (act : Act) (entry : Entry) → IsActStorable db.tables act → entry ≡ entry_of (machine_at db now next) (session_with drawn) act → IsStorable db entry
+entry_storable db now next had act entry storable is = subst (IsStorable db) (sym is) (record { act = storable; version = drawn (act_draws db act) db.version })

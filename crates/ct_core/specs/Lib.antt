@@ -1,6 +1,7 @@
-pub mod Alone
+pub mod Suits
 pub mod Range
 pub mod Rows
-pub mod Seats
 pub mod Seeing
+pub mod Settling
 pub mod Stands
+pub mod Steps

@@ -2,6 +2,8 @@ ghost use Rattle.std.specs.Prelude.{◌≡◌, true, false, Ok, IfOk, slice_get}
 ghost use Rattle.ct_types.specs.Answers.{Gives};
 ghost use Rattle.ct_bind_names.specs.Catalogue.{is_declared};
 ghost use Rattle.ct_expr.specs.Meaning.{on, value as value_on};
+ghost use Rattle.ct_model.specs.declared.db.Db.{Db};
+ghost use Rattle.ct_session.specs.Sessions.{SessionState};
 ghost use Rattle.ct_machine.specs.Decide as spec;
 ghost use Rattle.ct_machine.specs.Reads.{world_of};
 ghost use Rattle.ct_write.specs.Rows.{no_row};
@@ -85,7 +87,7 @@ pub(crate) fn decide_set(
     requires env { IsEnvOf db.now env.now }
     requires names { is_declared env.now.variables.0 (spec.variable_in statement.now) ≡ true }
     ensures is { IfOk result (λ made. made ≡ spec.set_variable (seen_with db.now env.now) (spec.variable_in statement.now) (slice_get env.now.variables.0 place) expr) }
-    ensures kept { IfOk result (DecisionIsKept (seen_with db.now env.now)) }
+    ensures kept { (newest seen : Db) (state : SessionState) → state.variables ≡ env.now.variables.0 → IfOk result (DecisionIsKept newest seen state) }
 {
     let Some(variable) = env.variables.0.as_slice().get(place as usize) else {
         return Ok(Decision::Answers(Reply::Done));
@@ -110,7 +112,7 @@ pub(crate) fn decide_declare(
     requires env { IsEnvOf db.now env.now }
     requires names { is_declared env.now.variables.0 name ≡ false }
     ensures is { IfOk result (λ made. made ≡ spec.declares name kind (spec.fitting name kind (spec.value_or_null (seen_with db.now env.now) expr))) }
-    ensures kept { IfOk result (DecisionIsKept (seen_with db.now env.now)) }
+    ensures kept { (newest seen : Db) (state : SessionState) → state.variables ≡ env.now.variables.0 → IfOk result (DecisionIsKept newest seen state) }
 {
     match declared(alloc, db, env, &name, kind, &expr) {
         Ok(value) => Ok(Decision::Declares(name, kind, value)),

@@ -1,16 +1,19 @@
 ghost use Rattle.std.specs.Prelude.{◌≡◌, ◌+◌, ◌^◌, ◌<◌, ◌≤◌, if◌then◌else◌};
-ghost use Rattle.ct_session.specs.Sessions.{fresh as fresh_session};
+ghost use Rattle.ct_types.specs.declared.refusal.Refusal.TheVariants.{Exhausted};
+ghost use Rattle.ct_types.specs.declared.reply.Reply.TheVariants.{Refused};
+ghost use Rattle.ct_session.specs.Sessions.{SessionState};
 ghost use Rattle.ct_machine.specs.Machine.{Machine, db_of};
-ghost use Rattle.ct_machine.specs.Step.{entry_of, has_room as has_room_for};
+ghost use Rattle.ct_machine.specs.Seen.{takes_view as takes_a_view};
+ghost use Rattle.ct_machine.specs.Step.{entry_of, has_room as has_room_for, most_number, next_xdes, xdes_or};
+ghost use Rattle.ct_core.specs.Settling.{takes_view_of};
 
 use crate::decide::decide_command;
 use crate::reads::env;
-use crate::sessions::{declare, isolate, set, variables_of};
 use ct_database::Database;
 use ct_machine::{Decision, draws_version, has_number};
-use ct_session::Session;
+use ct_sessions::Sessions;
 use ct_types::{
-    Act, ColType, Command, Entry, List, Memory, Refusal, Reply, Text, Value, Variables,
+    Act, ColType, Command, Entry, List, Memory, Refusal, Reply, Stmt, Text, Value, Variables, Write,
 };
 use std::alloc::Global;
 use std::marker::Model;
@@ -20,13 +23,12 @@ const MOST_NUMBER: u64 = 1 << 62;
 
 /// The newest database, with the sessions and what the next statement needs, and the disk, which nothing touches yet.
 /// Contracts see all five. The version is at most 2^62, the next number at most one more, each table has at most 64
-/// columns, and no transaction is open.
+/// columns, the writes that wait can be stored, and there is a machine for which the core stands.
 #[derive(Drop)]
 pub struct Core<D> {
     disk: D,
     db: Database,
-    /// Those that did something, each number once.
-    sessions: Vec<Session>,
+    sessions: Sessions,
     /// In seconds.
     now: u64,
     next: u64,
@@ -34,13 +36,13 @@ pub struct Core<D> {
 
 impl<D> Model for Core<D> {
     ghost use Rattle.ct_core.specs.Range.{IsInRange};
-    ghost use Rattle.ct_core.specs.Stands.{CoreState};
+    ghost use Rattle.ct_core.specs.Stands.{CoreState, StandsForOne};
 
     ghost Value = { CoreState D };
 
-    ghost view = { λ core. record { disk = core.disk; db = core.db; sessions = core.sessions.items; now = core.now; next = core.next } };
+    ghost view = { λ core. record { disk = core.disk; db = core.db; sessions = core.sessions; now = core.now; next = core.next } };
 
-    ghost invariant = { λ core. IsInRange core.db core.next core.sessions.items };
+    ghost invariant = { λ core. IsInRange core.db core.next core.sessions × StandsForOne (record { disk = core.disk; db = core.db; sessions = core.sessions; now = core.now; next = core.next }) };
 }
 
 /// The version after an entry: the next one where it draws one.
@@ -51,31 +53,39 @@ fn version_after(version: u64, draws: bool) -> u64
     if draws { version + 1 } else { version }
 }
 
-/// The number of an entry's transaction: the next one, where it has a number of its own.
-fn number_of(next: u64, numbered: bool) -> u64
-    ensures { result ≡ (if numbered then next else 0) }
+/// The number of a transaction: the one that it has drawn, else the next.
+fn number_of(next: u64, drawn: Option<u64>) -> u64
+    ensures { result ≡ xdes_or next drawn }
 {
-    if numbered { next } else { 0 }
+    drawn.unwrap_or(next)
 }
 
-/// The number of the next transaction after an entry.
-fn number_after(next: u64, numbered: bool) -> u64
+/// The number of the next transaction once one has its number, where it takes one and had none before.
+fn number_after(next: u64, numbered: bool, drawn: Option<u64>) -> u64
     requires { next < 2 ^ 63 }
-    ensures { result ≡ (if numbered then next + 1 else next) }
+    ensures { result ≡ (if numbered then next_xdes next drawn else next) }
 {
-    if numbered { next + 1 } else { next }
+    if numbered && drawn.is_none() {
+        next + 1
+    } else {
+        next
+    }
 }
 
-/// The entry of an act of a session without a transaction, in a core with this database, time and next number.
-fn entry(db: &Database, now: u64, next: u64, act: Act) -> Entry
+/// The entry of an act of a session that has drawn this number, in a core with this database, time and next number.
+fn entry(db: &Database, now: u64, next: u64, drawn: Option<u64>, act: Act) -> Entry
     requires { db.now.version < 2 ^ 63 }
-    ensures { (m : Machine) → db.now ≡ db_of m → now ≡ m.now → next ≡ m.next → result ≡ entry_of m fresh_session act }
+    ensures { (m : Machine) (session : SessionState) → db.now ≡ db_of m → now ≡ m.now → next ≡ m.next → drawn ≡ session.xdes → result ≡ entry_of m session act }
 {
     let draws = draws_version(db.catalogue(), &act);
     Entry {
         version: version_after(db.version(), draws),
         draws,
-        xdes: number_of(next, has_number(&act)),
+        xdes: if has_number(&act) {
+            number_of(next, drawn)
+        } else {
+            0
+        },
         time: now,
         act,
     }
@@ -88,18 +98,63 @@ fn has_room(entry: &Entry) -> bool
     entry.version <= MOST_NUMBER && entry.xdes <= MOST_NUMBER
 }
 
+/// That no version or no number is left.
+fn exhausted() -> Reply
+    ensures { result ≡ Refused (Exhausted most_number) }
+{
+    let limit = MOST_NUMBER;
+    Reply::Refused(Refusal::Exhausted { limit })
+}
+
+/// Whether an accepted statement takes the view of a SNAPSHOT transaction that has none yet.
+fn takes_view(statement: &Stmt) -> bool
+    ensures { result ≡ takes_a_view statement.now }
+{
+    match statement {
+        Stmt::Write { .. } | Stmt::Select(_) | Stmt::SetVariable { .. } => true,
+        Stmt::Declare { value, .. } => value.is_some(),
+        Stmt::AlterDatabase { .. }
+        | Stmt::CreateTable { .. }
+        | Stmt::EnableTracking { .. }
+        | Stmt::DisableTracking { .. }
+        | Stmt::TruncateTable { .. }
+        | Stmt::Begin
+        | Stmt::Commit
+        | Stmt::Rollback
+        | Stmt::SetIsolation(_)
+        | Stmt::SetLockTimeout => false,
+    }
+}
+
+/// The same of a command.
+fn command_takes_view(what: &Command) -> bool
+    ensures { result ≡ takes_view_of what.now }
+{
+    match what {
+        Command::Sql(statement) => takes_view(statement),
+        _ => false,
+    }
+}
+
 impl<D> Core<D> {
     ghost use Rattle.std.specs.Prelude.{false, true, ℕ, IfErr, IfOk, OnErr, OnOk};
     ghost use Rattle.ct_bind_names.specs.Catalogue.{is_declared};
+    ghost use Rattle.ct_database.specs.Waiting.{AreStoredIn};
     ghost use Rattle.ct_model.specs.Apply.{no_db};
+    ghost use Rattle.ct_machine.specs.Decide.{decide as decided};
+    ghost use Rattle.ct_machine.specs.Fits.{RowsFit};
     ghost use Rattle.ct_machine.specs.Machine.{opening};
     ghost use Rattle.ct_machine.specs.Play.{Follows, after, is_memory};
-    ghost use Rattle.ct_machine.specs.Fits.{RowsFit};
     ghost use Rattle.ct_machine.specs.Seen.{seen_by};
-    ghost use Rattle.ct_core.specs.Alone.{decided_alone};
-    ghost use Rattle.ct_core.specs.Range.{AreClosed, CommitIsKept, DecisionIsKept};
-    ghost use Rattle.ct_core.specs.Seats.{HaveStates};
-    ghost use Rattle.ct_core.specs.Stands.{IsSettled, IsTaken, Stands, seen_in};
+    ghost use Rattle.ct_sessions.specs.Owns.{IsReady, MayView, own_or};
+    ghost use Rattle.ct_sessions.specs.Seats.{own_in, state_in};
+    ghost use Rattle.ct_core.specs.Range.{CommitIsKept, DecisionIsKept, WaitIsKept};
+    ghost use Rattle.ct_core.specs.Settling.{IsSettled, IsTaken, StaysFor};
+    ghost use Rattle.ct_core.specs.Stands.{Stands};
+    ghost use Rattle.ct_session.specs.Sessions.{ended};
+    ghost use Rattle.ct_session.specs.declared.tran.Tran.TheVariants as tran;
+    ghost use Rattle.ct_machine.specs.Machine.{with_session};
+    ghost use Rattle.ct_machine.specs.Step.{viewed};
 
     /// The core of an opening without anything on the disk: the empty database at time 0, and fresh sessions. The first
     /// transaction has number 1. For want of memory the disk comes back.
@@ -111,7 +166,7 @@ impl<D> Core<D> {
         Ok(Core {
             disk,
             db: Database::empty(alloc),
-            sessions: Vec::new(alloc),
+            sessions: Sessions::new(alloc),
             now: 0,
             next: 1,
         })
@@ -124,112 +179,204 @@ impl<D> Core<D> {
         self.disk
     }
 
-    /// Commits an act of a session, where a version and a transaction's number are left for it.
-    fn commit(&mut self, act: Act, reply: Reply) -> Result<Reply, Memory>
-        requires { CommitIsKept self.old.db act reply }
-        ensures ok { IfOk result (λ shown. (m : Machine) (session : ℕ) → Stands self.old m → IsSettled m session (Decision.Commits act reply) shown self.new) }
+    /// Takes the view that an accepted statement takes, where it takes one.
+    fn view(&mut self, session: u8, what: &Command)
+        requires { MayView self.old.sessions session }
+        ensures views { (m : Machine) → Stands self.old m → Stands self.new (with_session m session (viewed m what.now (m.sessions session))) }
         ensures disk { self.new.disk ≡ self.old.disk }
-        ensures err { OnErr result (self.new ≡ self.old) }
     {
-        let numbered = has_number(&act);
-        let entry = entry(&self.db, self.now, self.next, act);
-        if !has_room(&entry) {
-            let limit = MOST_NUMBER;
-            return Ok(Reply::Refused(Refusal::Exhausted { limit }));
+        if command_takes_view(what) {
+            self.sessions.view(session);
         }
+    }
+
+    /// Commits an act of a session, where a version and a transaction's number are left for it, and ends the session's transaction.
+    fn commit(&mut self, session: u8, act: Act, reply: Reply) -> Result<Reply, Memory>
+        requires { CommitIsKept self.old.db act reply }
+        ensures ok { IfOk result (λ shown. (m : Machine) (what : Command) → Stands self.old m → IsSettled m session what (Decision.Commits act reply) shown self.new) }
+        ensures disk { self.new.disk ≡ self.old.disk }
+        ensures err { OnErr result (StaysFor self.old self.new) }
+    {
+        let drawn = self.sessions.xdes(session);
+        let numbered = has_number(&act);
+        let entry = entry(&self.db, self.now, self.next, drawn, act);
+        if !has_room(&entry) {
+            return Ok(exhausted());
+        }
+        let noted = self.sessions.noted(&entry)?;
         self.db.apply(entry)?;
-        self.next = number_after(self.next, numbered);
+        self.sessions.commit(noted);
+        self.sessions.end(session);
+        self.next = number_after(self.next, numbered, drawn);
         Ok(reply)
     }
 
-    /// Sets the level of the transactions of a session.
-    fn isolate(&mut self, alloc: Global, session: u8, snapshot: bool) -> Result<Reply, Memory>
-        ensures ok { IfOk result (λ shown. (m : Machine) → Stands self.old m → IsSettled m session (Decision.Isolates snapshot) shown self.new) }
+    /// Lets writes of a session wait for its COMMIT, where a number is left for its transaction.
+    fn pend(
+        &mut self,
+        session: u8,
+        what: &Command,
+        writes: List<Write>,
+        reply: Reply,
+    ) -> Result<Reply, Memory>
+        requires ready { MayView self.old.sessions session }
+        requires kept { WaitIsKept (own_or self.old.db (own_in self.old.sessions.seats session)) (state_in self.old.sessions.seats session) writes reply }
+        ensures ok { IfOk result (λ shown. (m : Machine) → Stands self.old m → IsSettled m session what.now (Decision.Pends writes reply) shown self.new) }
         ensures disk { self.new.disk ≡ self.old.disk }
-        ensures err { OnErr result ((m : Machine) → Stands self.old m → Stands self.new m) }
+        ensures err { OnErr result (StaysFor self.old self.new) }
     {
-        isolate(alloc, &mut self.sessions, session, snapshot)?;
-        Ok(Reply::Done)
+        let drawn = self.sessions.xdes(session);
+        if number_of(self.next, drawn) > MOST_NUMBER {
+            return Ok(exhausted());
+        }
+        let after = number_after(self.next, true, drawn);
+        self.sessions.pend(session, writes, self.next)?;
+        self.view(session, what);
+        self.next = after;
+        Ok(reply)
     }
 
     /// Gives a variable of a session a value.
     fn set(
         &mut self,
-        alloc: Global,
         session: u8,
+        what: &Command,
         name: &Text,
         value: Value,
     ) -> Result<Reply, Memory>
-        requires { is_declared (seen_in self.old session).variables name.now ≡ true }
-        ensures ok { IfOk result (λ shown. (m : Machine) → Stands self.old m → IsSettled m session (Decision.Sets name.now value) shown self.new) }
+        requires ready { MayView self.old.sessions session }
+        requires there { is_declared (state_in self.old.sessions.seats session).variables name.now ≡ true }
+        ensures ok { IfOk result (λ shown. (m : Machine) → Stands self.old m → IsSettled m session what.now (Decision.Sets name.now value) shown self.new) }
         ensures disk { self.new.disk ≡ self.old.disk }
-        ensures err { OnErr result ((m : Machine) → Stands self.old m → Stands self.new m) }
+        ensures err { OnErr result (StaysFor self.old self.new) }
     {
-        set(alloc, &mut self.sessions, session, name, value)?;
+        self.sessions.set(session, name, value)?;
+        self.view(session, what);
         Ok(Reply::Done)
     }
 
     /// Declares a variable of a session.
     fn declare(
         &mut self,
-        alloc: Global,
         session: u8,
+        what: &Command,
         name: Text,
         kind: ColType,
         value: Value,
     ) -> Result<Reply, Memory>
-        requires { is_declared (seen_in self.old session).variables name ≡ false }
-        ensures ok { IfOk result (λ shown. (m : Machine) → Stands self.old m → IsSettled m session (Decision.Declares name kind value) shown self.new) }
+        requires ready { MayView self.old.sessions session }
+        requires free { is_declared (state_in self.old.sessions.seats session).variables name ≡ false }
+        ensures ok { IfOk result (λ shown. (m : Machine) → Stands self.old m → IsSettled m session what.now (Decision.Declares name kind value) shown self.new) }
         ensures disk { self.new.disk ≡ self.old.disk }
-        ensures err { OnErr result ((m : Machine) → Stands self.old m → Stands self.new m) }
+        ensures err { OnErr result (StaysFor self.old self.new) }
     {
-        declare(alloc, &mut self.sessions, session, name, kind, value)?;
+        self.sessions.declare(session, name, kind, value)?;
+        self.view(session, what);
         Ok(Reply::Done)
     }
 
-    /// Does what a decision of a session says. None that only a transaction can bring comes.
-    fn settle(&mut self, alloc: Global, session: u8, decision: Decision) -> Result<Reply, Memory>
-        requires closed { AreClosed self.old.sessions }
-        requires kept { DecisionIsKept (seen_in self.old session) decision }
-        ensures ok { IfOk result (λ shown. (m : Machine) → Stands self.old m → IsSettled m session decision shown self.new) }
+    /// Answers a statement that changes nothing but that it takes a view.
+    fn answer(&mut self, session: u8, what: &Command, reply: Reply) -> Reply
+        requires { MayView self.old.sessions session }
+        ensures settled { (m : Machine) → Stands self.old m → IsSettled m session what.now (Decision.Answers reply) result self.new }
         ensures disk { self.new.disk ≡ self.old.disk }
-        ensures err { OnErr result ((m : Machine) → Stands self.old m → Stands self.new m) }
+    {
+        self.view(session, what);
+        reply
+    }
+
+    /// Ends the transaction of a session, without a commit.
+    fn end(&mut self, session: u8)
+        ensures ends { (m : Machine) (what : Command) → Stands self.old m → Stands self.new (with_session m session (ended (viewed m what (m.sessions session)))) }
+        ensures disk { self.new.disk ≡ self.old.disk }
+    {
+        self.sessions.end(session);
+    }
+
+    /// Begins a transaction of a session.
+    fn begin(&mut self, session: u8, what: &Command) -> Result<Reply, Memory>
+        requires none { (state_in self.old.sessions.seats session).tran ≡ tran.None }
+        ensures ok { IfOk result (λ shown. (m : Machine) → Stands self.old m → IsSettled m session what.now Decision.Begins shown self.new) }
+        ensures disk { self.new.disk ≡ self.old.disk }
+        ensures err { OnErr result (StaysFor self.old self.new) }
+    {
+        self.sessions.begin(session)?;
+        Ok(Reply::Done)
+    }
+
+    /// Sets the level of the transactions of a session.
+    fn isolate(&mut self, session: u8, what: &Command, snapshot: bool) -> Result<Reply, Memory>
+        requires { MayView self.old.sessions session }
+        ensures ok { IfOk result (λ shown. (m : Machine) → Stands self.old m → IsSettled m session what.now (Decision.Isolates snapshot) shown self.new) }
+        ensures disk { self.new.disk ≡ self.old.disk }
+        ensures err { OnErr result (StaysFor self.old self.new) }
+    {
+        self.sessions.isolate(session, snapshot)?;
+        self.view(session, what);
+        Ok(Reply::Done)
+    }
+
+    /// Does what a decision on a statement of a session says.
+    fn settle(&mut self, session: u8, what: &Command, decision: Decision) -> Result<Reply, Memory>
+        requires ready { IsReady self.old.sessions session }
+        requires kept { DecisionIsKept self.old.db (own_or self.old.db (own_in self.old.sessions.seats session)) (state_in self.old.sessions.seats session) decision }
+        ensures ok { IfOk result (λ shown. (m : Machine) → Stands self.old m → IsSettled m session what.now decision shown self.new) }
+        ensures disk { self.new.disk ≡ self.old.disk }
+        ensures err { OnErr result (StaysFor self.old self.new) }
     {
         match decision {
             Decision::Refuses(refusal) => Ok(Reply::Refused(refusal)),
-            Decision::Answers(reply) => Ok(reply),
-            Decision::Commits(act, reply) => self.commit(act, reply),
-            Decision::Ends => Ok(Reply::Done),
-            Decision::Isolates(snapshot) => self.isolate(alloc, session, snapshot),
-            Decision::Sets(name, value) => self.set(alloc, session, &name, value),
-            Decision::Declares(name, kind, value) => {
-                self.declare(alloc, session, name, kind, value)
+            Decision::Aborts(refusal) => {
+                self.end(session);
+                Ok(Reply::Refused(refusal))
             }
-            Decision::Aborts(_) | Decision::Pends(_, _) | Decision::Begins => unreachable!(),
+            Decision::Answers(reply) => Ok(self.answer(session, what, reply)),
+            Decision::Commits(act, reply) => self.commit(session, act, reply),
+            Decision::Pends(writes, reply) => self.pend(session, what, writes, reply),
+            Decision::Begins => self.begin(session, what),
+            Decision::Ends => {
+                self.end(session);
+                Ok(Reply::Done)
+            }
+            Decision::Isolates(snapshot) => self.isolate(session, what, snapshot),
+            Decision::Sets(name, value) => self.set(session, what, &name, value),
+            Decision::Declares(name, kind, value) => {
+                self.declare(session, what, name, kind, value)
+            }
         }
     }
 
-    /// What a statement of a session comes to.
+    /// What a statement of a session comes to, whose next statement may read.
     fn decide(&self, alloc: Global, session: u8, what: &Command) -> Result<Decision, Memory>
-        ensures is { IfOk result (λ made. made ≡ decided_alone (seen_in self.entry.now session) what.now) }
-        ensures kept { IfOk result (DecisionIsKept (seen_in self.entry.now session)) }
-        ensures fits { OnOk result (RowsFit (seen_in self.entry.now session) what.now) }
-        ensures closed { AreClosed self.entry.now.sessions }
+        requires { IsReady self.now.sessions session }
+        ensures is { IfOk result (λ made. (m : Machine) → Stands self.entry.now m → made ≡ decided m session what.now) }
+        ensures kept { IfOk result (DecisionIsKept self.entry.now.db (own_or self.entry.now.db (own_in self.entry.now.sessions.seats session)) (state_in self.entry.now.sessions.seats session)) }
+        ensures fits { OnOk result ((m : Machine) → Stands self.entry.now m → RowsFit (seen_by m (m.sessions session)) what.now) }
     {
         let none = Variables(List::new(alloc));
-        let variables = variables_of(self.sessions.as_slice(), session, &none);
-        let env = env(&self.db, variables);
-        decide_command(alloc, &self.db, &env, what)
+        let db = self.sessions.seen(session, &self.db);
+        let env = env(db, self.sessions.variables(session, &none));
+        decide_command(alloc, &self.sessions, session, db, &env, what)
+    }
+
+    /// Brings what the next statement of a session sees up to date.
+    fn prepare(&mut self, session: u8) -> Result<(), Memory>
+        ensures ready { OnOk result (IsReady self.new.sessions session) }
+        ensures stays { StaysFor self.old self.new }
+        ensures disk { self.new.disk ≡ self.old.disk }
+    {
+        self.sessions.prepare(session, &self.db)
     }
 
     fn try_event(&mut self, alloc: Global, session: u8, what: &Command) -> Result<Reply, Memory>
         ensures ok { IfOk result (λ reply. (m : Machine) → Stands self.old m → IsTaken m session what.now reply self.new) }
         ensures fits { OnOk result ((m : Machine) → Stands self.old m → RowsFit (seen_by m (m.sessions session)) what.now) }
         ensures disk { self.new.disk ≡ self.old.disk }
-        ensures err { OnErr result ((m : Machine) → Stands self.old m → Stands self.new m) }
+        ensures err { OnErr result (StaysFor self.old self.new) }
     {
+        self.prepare(session)?;
         let decision = self.decide(alloc, session, what)?;
-        self.settle(alloc, session, decision)
+        self.settle(session, what, decision)
     }
 
     /// One event: a statement of a session, with its reply. For every machine for which the core stood, the reply follows,
@@ -237,11 +384,13 @@ impl<D> Core<D> {
     ///
     /// `Done` answers a definition or an option that is taken, SET and DECLARE, `Count` the rows that an INSERT, UPDATE or
     /// DELETE wrote, `Rows` what a SELECT reads. `Refused` is the first refusal that applies, and changes nothing: `Syntax`,
-    /// or `TooMany` of 64 levels, for a text that is no sentence; `NoCommit` and `NoRollback` for COMMIT and ROLLBACK, since no
-    /// transaction is open; what binding refuses, as LANGUAGE.md tells; `NotBuilt` for BEGIN and the commands of scripts;
+    /// or `TooMany` of 64 levels, for a text that is no sentence; `InTransaction` for a statement that may not stand in a
+    /// transaction, `NoCommit` and `NoRollback` for COMMIT and ROLLBACK where none is open; what binding refuses, as LANGUAGE.md
+    /// tells; `NotBuilt` for the commands of scripts;
     /// `Overflow` where a number leaves 64 bits, or those of its INT column or variable; `NotNull` and `TooLong` for a value
-    /// that does not fit its column, `TooLong` for one that does not fit its variable; `Duplicate` for an INSERT of a key that
-    /// is there; `Exhausted` where no version or no transaction number is left, each at most 2^62. Want of memory is `Refused`
+    /// that does not fit its column, `TooLong` for one that does not fit its variable; `Blocked` for a key, or a key of the table,
+    /// that another session holds; `Conflict` for a table or a key that was changed after the view of a SNAPSHOT transaction, which
+    /// it ends; `Duplicate` for an INSERT of a key that is there; `Exhausted` where no version or no transaction number is left, each at most 2^62. Want of memory is `Refused`
     /// with `Memory`; it may come at any event, and leaves the database and each session as it was. The order of the
     /// refusals is this project's own.
     ///

@@ -6,7 +6,6 @@ mod changes;
 mod core_state;
 mod decide;
 mod reads;
-mod sessions;
 mod system;
 mod versions;
 mod writing;

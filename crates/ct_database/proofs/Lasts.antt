@@ -1,26 +1,27 @@
 -- The last change of a key among commits that rise by version, by the version that it is noted with.
-use Rattle.std.proofs.Common.{◌≡◌, ℕ, ◌<◌, ◌≤◌, nat_lt, Bool, true, false, cond, ◌==◌, ◌⊎◌, inl, inr, List, [], ◌∷◌, ◌++◌, map, filter, find, Option, None, Some, option_map, if◌then◌else◌, refl, sym, ap, ap₂, ◌∙◌, subst, arith, tests}
+use Rattle.std.proofs.Common.{◌≡◌, ℕ, ◌-◌, ◌<◌, ◌≤◌, nat_lt, Bool, true, false, cond, ◌==◌, ◌⊎◌, inl, inr, List, [], ◌∷◌, ◌++◌, length, take, get_or, map, filter, find, Option, None, Some, if◌then◌else◌, refl, sym, ap, ap₂, ◌∙◌, subst, eq-eqb, arith, tests}
 use Rattle.std.specs.List.{AllByRecursion, list_any}
-use Rattle.std.specs.Ordering.{is_lt, is_eq}
-use Rattle.std.specs.declared.sync.Arc.{Arc}
-use Rattle.std.specs.declared.cmp.Ordering.TheVariants.{Less, Equal}
-use Rattle.std.proofs.lemmas.Cmp.{tied_itself}
+use Rattle.std.specs.Ordering.{is_eq}
+use Rattle.std.proofs.lemmas.List.{map-append}
 use Rattle.std.proofs.lemmas.List.Elements.{filter-append}
+use denote.Ref.{Bor}
 use Rattle.ct_types.specs.Order.{key_cmp}
-use Rattle.ct_types.proofs.Orders.{key_cmp_total}
+use Rattle.ct_types.proofs.Lists.{all_back, all_found}
 use Rattle.ct_types.specs.declared.value.Key.{Key}
 use Rattle.ct_types.specs.declared.entry.Change.{Change}
 use Rattle.ct_types.specs.declared.entry.Kept.{Kept}
 use Rattle.ct_model.specs.declared.db.Dated.{Dated}
 use Rattle.ct_model.specs.Net.{changes_above, dated_in, last_of, window}
-use Rattle.ct_ptree.specs.declared.pair.Pair.{Pair}
-use Rattle.ct_ptree.specs.Pairs.{Ascends, is_at, value_at}
 use Rattle.ct_model.proofs.Members.{all_weaken}
-use Rattle.ct_model.specs.declared.db.Table.{Table}
-use Rattle.ct_database.specs.Steps.{dated, last_here, is_of, is_later, or_first, last_in, version_key, own_key, commits_of, AreAtVersions, AreNewest, Rise, IsNoted, IsSwept, AreNoted}
-use Rattle.ct_database.proofs.AtVersions.{version_below, version_not_below}
+use Rattle.ct_ptree.specs.declared.pair.Pair.{Pair}
+use Rattle.ct_ptree.specs.Pairs.{value_at}
+use Rattle.ct_ptree.proofs.Lists.{take_at}
+use Rattle.ct_source.specs.Rows.{lent}
+use Rattle.ct_database.specs.Steps.{dated, last_here, is_of, is_later, is_version, or_first, last_in, own_key, AreNewest, Rise, IsNoted, AreNoted}
 use Rattle.ct_database.proofs.Backwards.{last_joined}
 use Rattle.ct_database.proofs.Notes.{none_of_last, some_of_last}
+use Rattle.ct_database.proofs.Numbered.{not_equal}
+use Rattle.ct_database.proofs.Rising.{all_gone}
 
 -- ---- the last change that is above a version
 
@@ -76,11 +77,6 @@ none_left table floor key (one ∷ kept) none =
     elim [ true ↦ ap₂ or_first none.0 more | false ↦ more ] in
     step (is_later floor one)
 
--- nothing is left of commits at or before a version
-pub all_gone : (floor : ℕ) (kept : List Kept) → AllByRecursion (λ (one : Kept). one.version ≤ floor) kept → filter (is_later floor) kept ≡ []
-all_gone floor [] all = refl
-all_gone floor (one ∷ kept) all = let no : is_later floor one ≡ false = search (tests, arith) in rw no (all_gone floor kept all.1)
-
 -- ---- the version of the last change
 
 dated_at : (version : ℕ) (changes : List Change) (key : Key) → AllByRecursion (λ (it : Dated). it.version ≡ version) (window (map (dated version) changes) key)
@@ -103,9 +99,8 @@ version_here table version key changes last e =
 -- ---- where the last change stands
 
 -- a commit has the last change of the key among these, and is found by its version
-abbrev pub IsLastOf : {Z : Type 0} → ℕ → Key → List (Pair (Arc Kept Z)) → Dated → Type 0
-IsLastOf {Z} table key older last =
-    (it : Arc Kept Z) × (value_at older (version_key last.version) ≡ Some it) × (last_here table it.value.version key it.value.changes ≡ Some last)
+abbrev pub IsLastOf : ℕ → Key → List Kept → Dated → Type 0
+IsLastOf table key kept last = (one : Kept) × (find (is_version last.version) kept ≡ Some one) × (last_here table one.version key one.changes ≡ Some last)
 
 one_last : (here more : Option Dated) (last : Dated) → or_first here more ≡ Some last → (more ≡ Some last) ⊎ ((more ≡ None) × (here ≡ Some last))
 one_last here None last e = inr (refl, e)
@@ -150,98 +145,64 @@ low_last table floor key (one ∷ kept) last rising low e =
           ap (λ (b : Bool). last_in table key (cond b (one ∷ filter (is_later floor) kept) (filter (is_later floor) kept))) gone ∙ none_left table floor key kept (none_has table key kept own.0))
     ]
 
--- commits at the keys of their versions rise, since the keys do
-key_rises : (a b : ℕ) → key_cmp (version_key a) (version_key b) ≡ Less → a < b
-key_rises a b e =
-    let step : (c : Bool) → c ≡ nat_lt a b → a < b =
+pub where_last : (table : ℕ) (key : Key) (kept : List Kept) (last : Dated) → Rise kept → last_in table key kept ≡ Some last → IsLastOf table key kept last
+where_last table key [] last rising e = absurd cc
+where_last table key (one ∷ kept) last rising e =
+    elim (one_last (last_here table one.version key one.changes) (last_in table key kept) last e) [
+      | inl more ↦
+          (let found = where_last table key kept last rising.1 more in
+          let before : one.version < last.version = above_last table one.version key kept last rising.0 more in
+          let other : is_version last.version one ≡ false = not_equal one.version last.version (λ same. absurd (omega (arith, same))) in
+          (found.0, rw other found.1, found.2))
+      | inr own ↦
+          (let is : one.version ≡ last.version = sym (version_here table one.version key one.changes last own.1) in
+          let here : is_version last.version one ≡ true = eq-eqb one.version last.version is in
+          (one, rw here refl, own.1))
+    ]
+
+left_of_none : (table floor : ℕ) (key : Key) (kept : List Kept) → ((last : Dated) → last_in table key kept ≡ Some last → ⊥) → last_in table key (filter (is_later floor) kept) ≡ None
+left_of_none table floor key kept never =
+    let step : (o : Option Dated) → last_in table key kept ≡ o → last_in table key (filter (is_later floor) kept) ≡ None =
+    elim [ None ↦ (λ e. none_left table floor key kept (none_has table key kept e)) | Some last ↦ (λ e. absurd (never last e)) ] in
+    step (last_in table key kept) refl
+
+pub not_noted : (table floor : ℕ) (key : Key) (kept : List Kept) → IsNoted table key kept None → last_in table key (filter (is_later floor) kept) ≡ None
+not_noted table floor key kept noted = left_of_none table floor key kept (λ last e. let bad = noted last e in cc)
+
+pub noted_low : (table floor : ℕ) (key : Key) (kept : List Kept) (version : ℕ) → Rise kept → IsNoted table key kept (Some version) → version ≤ floor
+    → last_in table key (filter (is_later floor) kept) ≡ None
+noted_low table floor key kept version rising noted low =
+    let step : (o : Option Dated) → last_in table key kept ≡ o → last_in table key (filter (is_later floor) kept) ≡ None =
     elim [
-      | true ↦ (λ is. search (tests, arith))
-      | false ↦ (λ is. let le : b ≤ a = search (tests, arith) in absurd (let bad : true ≡ false = ap is_lt (sym e) ∙ version_not_below a b le in cc))
+      | None ↦ (λ e. none_left table floor key kept (none_has table key kept e))
+      | Some last ↦ (λ e. let is : version ≡ last.version = (let same = noted last e in cc) in low_last table floor key kept last rising (omega arith) e)
     ] in
-    step (nat_lt a b) refl
+    step (last_in table key kept) refl
 
-module _ {Z : Type 0} where
-  pub where_last : (table : ℕ) (key : Key) (older : List (Pair (Arc Kept Z))) (last : Dated) → AreAtVersions older → Rise (commits_of older) → last_in table key (commits_of older) ≡ Some last → IsLastOf table key older last
-  where_last table key [] last keyed rising e = absurd cc
-  where_last table key (pair ∷ older) last keyed rising e =
-      let one : Kept = pair.value.value in
-      elim (one_last (last_here table one.version key one.changes) (last_in table key (commits_of older)) last e) [
-        | inl more ↦
-            (let found = where_last table key older last keyed.1 rising.1 more in
-            let before : one.version < last.version = above_last table one.version key (commits_of older) last rising.0 more in
-            let other : key_cmp pair.key (version_key last.version) ≡ Less = ap (λ (k : Key). key_cmp k (version_key last.version)) keyed.0 ∙ version_below one.version last.version before in
-            (found.0, rw other found.1, found.2))
-        | inr own ↦
-            (let is : last.version ≡ one.version = version_here table one.version key one.changes last own.1 in
-            let at : key_cmp pair.key (version_key last.version) ≡ Equal = ap₂ key_cmp keyed.0 (ap version_key is) ∙ tied_itself key_cmp_total (version_key one.version) in
-            (pair.value, rw at refl, own.1))
-      ]
+pub noted_gone : (table floor : ℕ) (key : Key) (kept : List Kept) (version : ℕ) → Rise kept → IsNoted table key kept (Some version) → find (is_version version) kept ≡ None
+    → last_in table key (filter (is_later floor) kept) ≡ None
+noted_gone table floor key kept version rising noted gone =
+    left_of_none table floor key kept
+    (λ last e. let is : version ≡ last.version = (let same = noted last e in cc) in
+    let found = where_last table key kept last rising e in
+    let bad : None ≡ Some found.0 = sym (ap (λ (v : ℕ). find (is_version v) kept) (sym is) ∙ gone) ∙ found.1 in
+    cc)
 
-  -- a commit that is found has no change of a key of which none has one
-  found_none : (table : ℕ) (key at : Key) (older : List (Pair (Arc Kept Z))) (it : Arc Kept Z) → NoneHas table key (commits_of older) → value_at older at ≡ Some it → last_here table it.value.version key it.value.changes ≡ None
-  found_none table key at [] it none e = absurd cc
-  found_none table key at (pair ∷ older) it none e =
-      let step : (b : Bool) → option_map (λ (p : Pair (Arc Kept Z)). p.value) (cond b (Some pair) (find (is_at at) older)) ≡ Some it → last_here table it.value.version key it.value.changes ≡ None =
-      elim [
-        | true ↦ (λ is. let same : pair.value ≡ it = cc in subst (λ (found : Arc Kept Z). last_here table found.value.version key found.value.changes ≡ None) same none.0)
-        | false ↦ (λ is. found_none table key at older it none.1 is)
-      ] in
-      step (is_at at pair) e
-
-  left_of_none : (table floor : ℕ) (key : Key) (older : List (Pair (Arc Kept Z))) → ((last : Dated) → last_in table key (commits_of older) ≡ Some last → ⊥)
-      → last_in table key (filter (is_later floor) (commits_of older)) ≡ None
-  left_of_none table floor key older never =
-      let step : (o : Option Dated) → last_in table key (commits_of older) ≡ o → last_in table key (filter (is_later floor) (commits_of older)) ≡ None =
-      elim [ None ↦ (λ e. none_left table floor key (commits_of older) (none_has table key (commits_of older) e)) | Some last ↦ (λ e. absurd (never last e)) ] in
-      step (last_in table key (commits_of older)) refl
-
-  pub not_noted : (table floor : ℕ) (key : Key) (older : List (Pair (Arc Kept Z))) → IsNoted table key (commits_of older) None → last_in table key (filter (is_later floor) (commits_of older)) ≡ None
-  not_noted table floor key older noted = left_of_none table floor key older (λ last e. let bad = noted last e in cc)
-
-  pub noted_low : (table floor : ℕ) (key : Key) (older : List (Pair (Arc Kept Z))) (version : ℕ) → Rise (commits_of older) → IsNoted table key (commits_of older) (Some version) → version ≤ floor
-      → last_in table key (filter (is_later floor) (commits_of older)) ≡ None
-  noted_low table floor key older version rising noted low =
-      let step : (o : Option Dated) → last_in table key (commits_of older) ≡ o → last_in table key (filter (is_later floor) (commits_of older)) ≡ None =
-      elim [
-        | None ↦ (λ e. none_left table floor key (commits_of older) (none_has table key (commits_of older) e))
-        | Some last ↦ (λ e. let is : version ≡ last.version = (let same = noted last e in cc) in low_last table floor key (commits_of older) last rising (omega arith) e)
-      ] in
-      step (last_in table key (commits_of older)) refl
-
-  pub noted_gone : (table floor : ℕ) (key : Key) (older : List (Pair (Arc Kept Z))) (version : ℕ) → AreAtVersions older → Rise (commits_of older) → IsNoted table key (commits_of older) (Some version)
-      → value_at older (version_key version) ≡ None → last_in table key (filter (is_later floor) (commits_of older)) ≡ None
-  noted_gone table floor key older version keyed rising noted gone =
-      left_of_none table floor key older
-      (λ last e. let is : version ≡ last.version = (let same = noted last e in cc) in
-      let found = where_last table key older last keyed rising e in
-      let bad : None ≡ Some found.0 = sym (ap (λ (v : ℕ). value_at older (version_key v)) (sym is) ∙ gone) ∙ found.1 in
-      cc)
-
-  pub noted_there : (table floor : ℕ) (key : Key) (older : List (Pair (Arc Kept Z))) (version : ℕ) (it : Arc Kept Z) → AreAtVersions older → Rise (commits_of older) → IsNoted table key (commits_of older) (Some version)
-      → floor < version → value_at older (version_key version) ≡ Some it
-      → last_in table key (filter (is_later floor) (commits_of older)) ≡ last_here table it.value.version key it.value.changes
-  noted_there table floor key older version it keyed rising noted high there =
-      let step : (o : Option Dated) → last_in table key (commits_of older) ≡ o
-      → last_in table key (filter (is_later floor) (commits_of older)) ≡ last_here table it.value.version key it.value.changes =
-      elim [
-        | None ↦ (λ e. let none = none_has table key (commits_of older) e in none_left table floor key (commits_of older) none ∙ sym (found_none table key (version_key version) older it none there))
-        | Some last ↦
-            (λ e. let is : version ≡ last.version = (let same = noted last e in cc) in
-            let found = where_last table key older last keyed rising e in
-            let same : it ≡ found.0 = (let both : Some it ≡ Some found.0 = sym there ∙ ap (λ (v : ℕ). value_at older (version_key v)) is ∙ found.1 in cc) in
-            high_last table floor key (commits_of older) last (omega arith) e ∙ sym (ap (λ (that : Arc Kept Z). last_here table that.value.version key that.value.changes) same ∙ found.2))
-      ] in
-      step (last_in table key (commits_of older)) refl
-
-  all_rise : (version : ℕ) (key : Key) (older : List (Pair (Arc Kept Z))) → key ≡ version_key version → AreAtVersions older → AllByRecursion (λ (later : Pair (Arc Kept Z)). key_cmp key later.key ≡ Less) older
-      → AllByRecursion (λ (later : Kept). version < later.version) (commits_of older)
-  all_rise version key [] is keyed above = tt
-  all_rise version key (pair ∷ older) is keyed above =
-      (key_rises version pair.value.value.version (ap₂ key_cmp (sym is) (sym keyed.0) ∙ above.0), all_rise version key older is keyed.1 above.1)
-
-  pub rise_of : (older : List (Pair (Arc Kept Z))) → AreAtVersions older → Ascends older → Rise (commits_of older)
-  rise_of [] keyed rising = tt
-  rise_of (pair ∷ older) keyed rising = (all_rise pair.value.value.version pair.key older keyed.0 keyed.1 rising.0, rise_of older keyed.1 rising.1)
+pub noted_there : (table floor : ℕ) (key : Key) (kept : List Kept) (version : ℕ) (one : Kept) → Rise kept → IsNoted table key kept (Some version) → floor < version → find (is_version version) kept ≡ Some one
+    → last_in table key (filter (is_later floor) kept) ≡ last_here table one.version key one.changes
+noted_there table floor key kept version one rising noted high there =
+    let step : (o : Option Dated) → last_in table key kept ≡ o → last_in table key (filter (is_later floor) kept) ≡ last_here table one.version key one.changes =
+    elim [
+      | None ↦
+          (λ e. let none = none_has table key kept e in
+          none_left table floor key kept none ∙ sym (all_found (λ (it : Kept). last_here table it.version key it.changes ≡ None) (is_version version) kept one none there))
+      | Some last ↦
+          (λ e. let is : version ≡ last.version = (let same = noted last e in cc) in
+          let found = where_last table key kept last rising e in
+          let same : one ≡ found.0 = (let both : Some one ≡ Some found.0 = sym there ∙ ap (λ (v : ℕ). find (is_version v) kept) is ∙ found.1 in cc) in
+          high_last table floor key kept last (omega arith) e ∙ sym (ap (λ (that : Kept). last_here table that.version key that.changes) same ∙ found.2))
+    ] in
+    step (last_in table key kept) refl
 
 -- ---- with the newest commit
 
@@ -270,37 +231,56 @@ pub newest_has_none : (table floor : ℕ) (key : Key) (older newest : List Kept)
 newest_has_none table floor key older newest none =
     last_with table floor key older newest ∙ ap (or_first (last_in table key (filter (is_later floor) older))) (none_left table floor key newest (none_has table key newest none))
 
+-- ---- a walk from the end
+
+-- one more commit at the end
+pub last_behind : (table : ℕ) (key : Key) (front : List Kept) (one : Kept) → last_in table key (front ++ one ∷ []) ≡ or_first (last_in table key front) (last_here table one.version key one.changes)
+last_behind table key front one = last_in_joined table key front (one ∷ [])
+
+-- the last change in commits up to a place is that of the commit in front of it, or else that of those before
+pub walked_at : (table : ℕ) (key : Key) (commits : List (Bor Kept)) (at : ℕ) (one : Bor Kept) → 0 < at → at ≤ length commits → one ≡ get_or commits (at - 1) one
+    → last_in table key (lent (take at commits)) ≡ or_first (last_in table key (lent (take (at - 1) commits))) (last_here table one.now.version key one.now.changes)
+walked_at table key commits at one some within is =
+    ap (λ (n : ℕ). last_in table key (lent (take n commits))) (omega arith)
+    ∙ ap (λ (front : List (Bor Kept)). last_in table key (lent front)) (take_at commits (at - 1) one (omega arith) is)
+    ∙ ap (last_in table key) (map-append (λ (it : Bor Kept). it.now) (take (at - 1) commits) (one ∷ []))
+    ∙ last_behind table key (lent (take (at - 1) commits)) one.now
+
 -- ---- notes stay right
 
-pub noted_swept : (tables : List Table) (old new newest : List Kept) (notes : List (Pair ℕ)) → IsSwept tables old new → AreNoted old newest notes → AreNoted new newest notes
-noted_swept tables old new newest notes swept noted =
-    λ table key none last e. elim swept [
-      | inl same ↦ noted table key none last (ap (last_in table key) (sym same) ∙ e)
-      | inr gone ↦ noted table key none last (ap (last_in table key) gone.1 ∙ ap (or_first (last_here table gone.0.version key gone.0.changes)) e)
-    ]
-
 -- notes on what the newest commit changes spoil none
-pub noted_others : (older newest : List Kept) (one : Kept) (changes : List Change) (notes made : List (Pair ℕ)) → newest ≡ one ∷ [] → changes ≡ one.changes → AreNoted older newest notes
-    → ((table : ℕ) (key : Key) → list_any (is_of table key) changes ≡ false → value_at made (own_key table key) ≡ value_at notes (own_key table key)) → AreNoted older newest made
-noted_others older newest one changes notes made is same noted others =
+pub noted_others : (older : List Kept) (one : Kept) (changes : List Change) (notes made : List (Pair ℕ)) → changes ≡ one.changes → AreNoted older (one ∷ []) notes
+    → ((table : ℕ) (key : Key) → list_any (is_of table key) changes ≡ false → value_at made (own_key table key) ≡ value_at notes (own_key table key)) → AreNoted older (one ∷ []) made
+noted_others older one changes notes made same noted others =
     λ table key none last e.
-    let free : last_here table one.version key one.changes ≡ None = sym (ap (last_in table key) is) ∙ none in
-    others table key (ap (list_any (is_of table key)) same ∙ none_of_last table one.version key one.changes free) ∙ noted table key none last e
+    others table key (ap (list_any (is_of table key)) same ∙ none_of_last table one.version key one.changes none) ∙ noted table key none last e
 
 -- once all that it changes is noted, it may go to the older ones
-pub noted_settled : (older newest settled : List Kept) (one : Kept) (changes : List Change) (version : ℕ) (made : List (Pair ℕ)) → newest ≡ one ∷ [] → changes ≡ one.changes → version ≡ one.version
-    → settled ≡ older ++ one ∷ [] → AreNoted older newest made
-    → ((table : ℕ) (key : Key) → list_any (is_of table key) changes ≡ true → value_at made (own_key table key) ≡ Some version) → AreNoted settled [] made
-noted_settled older newest settled one changes version made is same at joined noted own =
+pub noted_settled : (older : List Kept) (one : Kept) (changes : List Change) (version : ℕ) (made : List (Pair ℕ)) → changes ≡ one.changes → version ≡ one.version → AreNoted older (one ∷ []) made
+    → ((table : ℕ) (key : Key) → list_any (is_of table key) changes ≡ true → value_at made (own_key table key) ≡ Some version) → AreNoted (older ++ one ∷ []) [] made
+noted_settled older one changes version made same at noted own =
     λ table key none last e.
-    let here : Option Dated = last_here table one.version key one.changes in
-    let parts : or_first (last_in table key older) (last_here table one.version key one.changes) ≡ Some last = sym (ap (last_in table key) joined ∙ last_in_joined table key older (one ∷ []) ∙ ap (or_first (last_in table key older)) (none_more here)) ∙ e in
-    elim (one_last (last_in table key older) (last_here table one.version key one.changes) last parts) [
+    elim (one_last (last_in table key older) (last_here table one.version key one.changes) last (sym (last_behind table key older one) ∙ e)) [
       | inl has ↦
           (own table key (ap (list_any (is_of table key)) same ∙ some_of_last table one.version key one.changes last has)
           ∙ ap Some (at ∙ sym (version_here table one.version key one.changes last has)))
-      | inr before ↦ noted table key (ap (last_in table key) is ∙ before.0) last before.1
+      | inr before ↦ noted table key before.0 last before.1
     ]
-  where
-    none_more : (o : Option Dated) → or_first o None ≡ o
-    none_more o = refl
+
+-- what a further commit changes is noted no less
+pub noted_wider : (older newest : List Kept) (notes : List (Pair ℕ)) → AreNoted older [] notes → AreNoted older newest notes
+noted_wider older newest notes noted = λ table key none. noted table key refl
+
+-- the version of the last change in commits behind others is above those
+all_before : (table : ℕ) (key : Key) (gone left : List Kept) (last : Dated) → Rise (gone ++ left) → last_in table key left ≡ Some last → AllByRecursion (λ (one : Kept). one.version < last.version) gone
+all_before table key [] left last rising e = tt
+all_before table key (one ∷ gone) left last rising e =
+    (above_last table one.version key left last (all_back (λ (later : Kept). one.version < later.version) gone left rising.0) e, all_before table key gone left last rising.1 e)
+
+-- notes on what is left stay, where those stay whose versions are above what is gone
+pub noted_left : (gone left newest : List Kept) (notes made : List (Pair ℕ)) → Rise (gone ++ left) → AreNoted (gone ++ left) newest notes
+    → ((noted : ℕ) → AllByRecursion (λ (one : Kept). one.version < noted) gone → (key : Key) → value_at notes key ≡ Some noted → value_at made key ≡ Some noted) → AreNoted left newest made
+noted_left gone left newest notes made rising noted stay =
+    λ table key none last e.
+    stay last.version (all_before table key gone left last rising e) (own_key table key)
+    (noted table key none last (last_in_joined table key gone left ∙ ap (or_first (last_in table key gone)) e))

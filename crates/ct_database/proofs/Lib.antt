@@ -1,5 +1,5 @@
-pub mod AtVersions
 pub mod Backwards
+pub mod Chunks
 pub mod Counted
 pub mod LaterChanges
 pub mod Lasts
@@ -8,6 +8,9 @@ pub mod Notes
 pub mod Needs
 pub mod Numbered
 pub mod Placed
+pub mod Pointers
+pub mod Rising
 pub mod Storing
 pub mod Swept
 pub mod Trimmed
+pub mod RowsPut

@@ -25,7 +25,7 @@ needed test version tables = list_any (λ table. test table.schema.id && is_abov
 
 -- ---- tests
 
-or_weaker : (a b c d : Bool) → (a ≡ true → c ≡ true) → (b ≡ true → d ≡ true) → (a || b) ≡ true → (c || d) ≡ true
+pub or_weaker : (a b c d : Bool) → (a ≡ true → c ≡ true) → (b ≡ true → d ≡ true) → (a || b) ≡ true → (c || d) ≡ true
 or_weaker true b c d first second e = ap (λ (x : Bool). x || d) (first refl)
 or_weaker false b true d first second e = refl
 or_weaker false b false d first second e = second e
@@ -125,7 +125,7 @@ narrower_above version old None narrower e = absurd (let bad : false ≡ true = 
 narrower_above version None (Some now) narrower e = absurd narrower
 narrower_above version (Some old) (Some now) narrower e = search (tests, arith)
 
-abbrev raised_all : List Min → Table → Table
+abbrev pub raised_all : List Min → Table → Table
 raised_all minima table = fold (λ (before : Table) (listed : Min). raised listed before) table minima
 
 abbrev IsRaisedFrom : Table → Table → Type 0
@@ -152,7 +152,7 @@ map_itself [] = refl
 map_itself (x ∷ xs) = ap (λ rest. x ∷ rest) (map_itself xs)
 
 -- tables that are raised by one minimum after the other are each raised by all
-raised_each : (minima : List Min) (tables : List Table) → fold (λ before listed. map (raised listed) before) tables minima ≡ map (raised_all minima) tables
+pub raised_each : (minima : List Min) (tables : List Table) → fold (λ before listed. map (raised listed) before) tables minima ≡ map (raised_all minima) tables
 raised_each [] tables = map_itself tables
 raised_each (listed ∷ minima) tables = raised_each minima (map (raised listed) tables) ∙ map-map (raised_all minima) (raised listed) tables
 

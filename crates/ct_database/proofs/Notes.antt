@@ -16,8 +16,8 @@ use Rattle.ct_model.specs.Net.{last_of, window}
 use Rattle.ct_ptree.specs.declared.pair.Pair.{Pair}
 use Rattle.ct_ptree.proofs.Lists.{take_at}
 use Rattle.ct_ptree.proofs.Rising.{turned, flipped}
-use Rattle.ct_ptree.specs.Pairs.{is_at, is_below, is_above, value_at, set_pair}
-use Rattle.ct_database.specs.Steps.{dated, last_here, is_of, own_key}
+use Rattle.ct_ptree.specs.Pairs.{is_at, is_below, is_above, value_at, set_pair, without}
+use Rattle.ct_database.specs.Steps.{dated, last_here, is_of, own_key, NotesStay}
 
 -- ---- the value of a key after a put
 
@@ -64,6 +64,24 @@ module _ {V : Type 0} where
   at_key : (pair : Pair V) (key : Key) → is_at key pair ≡ true → pair.key ≡ key
   at_key pair key e = key_cmp_exact pair.key key (equal_is (key_cmp pair.key key) e)
 
+  -- what stands below a key or above it has the values of all other keys
+  low_none : (pairs : List (Pair V)) (key other : Key) → key_cmp key other ≡ Less → find (is_at other) (filter (is_below key) pairs) ≡ None
+  low_none pairs key other e =
+      find_gone (is_at other) (is_below key) (λ p below. ap is_eq (key_cmp_total.trans p.key key other (less_is (key_cmp p.key key) below) e)) pairs
+
+  high_all : (pairs : List (Pair V)) (key other : Key) → key_cmp key other ≡ Less → find (is_at other) (filter (is_above key) pairs) ≡ find (is_at other) pairs
+  high_all pairs key other e =
+      find_kept (is_at other) (is_above key) (λ p at. ap (λ (k : Key). is_gt (key_cmp k key)) (at_key p other at) ∙ ap is_gt (flipped other key e)) pairs
+
+  low_all : (pairs : List (Pair V)) (key other : Key) → key_cmp key other ≡ Greater → find (is_at other) (filter (is_below key) pairs) ≡ find (is_at other) pairs
+  low_all pairs key other e =
+      find_kept (is_at other) (is_below key) (λ p at. ap (λ (k : Key). is_lt (key_cmp k key)) (at_key p other at) ∙ ap is_lt (turned key other e)) pairs
+
+  high_none : (pairs : List (Pair V)) (key other : Key) → key_cmp key other ≡ Greater → find (is_at other) (filter (is_above key) pairs) ≡ None
+  high_none pairs key other e =
+      find_gone (is_at other) (is_above key)
+      (λ p above. ap is_eq (flipped p.key other (key_cmp_total.trans other key p.key (turned key other e) (turned p.key key (greater_is (key_cmp p.key key) above))))) pairs
+
   -- a put changes the value of its key alone
   pub value_put : (pairs : List (Pair V)) (key : Key) (value : V) (other : Key) → value_at (set_pair pairs key value) other ≡ (if is_eq (key_cmp key other) then Some value else value_at pairs other)
   value_put pairs key value other =
@@ -75,29 +93,33 @@ module _ {V : Type 0} where
       let step : (o : Ordering) → key_cmp key other ≡ o
       → shown (option_or (find (is_at other) lows) (cond (is_eq o) (Some pair) (find (is_at other) highs))) ≡ (if is_eq o then Some value else value_at pairs other) =
       elim [
-        | Less ↦
-            (λ e. let no_low : find (is_at other) lows ≡ None = find_gone (is_at other) (is_below key)
-            (λ p below. ap is_eq (key_cmp_total.trans p.key key other (less_is (key_cmp p.key key) below) e)) pairs in
-            let high : find (is_at other) highs ≡ find (is_at other) pairs = find_kept (is_at other) (is_above key)
-            (λ p at. ap (λ (k : Key). is_gt (key_cmp k key)) (at_key p other at) ∙ ap is_gt (flipped other key e)) pairs in
-            ap₂ (λ (a b : Option (Pair V)). shown (option_or a b)) no_low high)
+        | Less ↦ (λ e. ap₂ (λ (a b : Option (Pair V)). shown (option_or a b)) (low_none pairs key other e) (high_all pairs key other e))
         | Equal ↦
             (λ e. let same : key ≡ other = key_cmp_exact key other e in
             let no_low : find (is_at other) lows ≡ None = find_gone (is_at other) (is_below key)
             (λ p below. ap (λ (k : Key). is_eq (key_cmp p.key k)) (sym same) ∙ ap is_eq (less_is (key_cmp p.key key) below)) pairs in
             ap (λ (a : Option (Pair V)). shown (option_or a (Some pair))) no_low)
         | Greater ↦
-            (λ e. let low : find (is_at other) lows ≡ find (is_at other) pairs = find_kept (is_at other) (is_below key)
-            (λ p at. ap (λ (k : Key). is_lt (key_cmp k key)) (at_key p other at) ∙ ap is_lt (turned key other e)) pairs in
-            let no_high : find (is_at other) highs ≡ None = find_gone (is_at other) (is_above key)
-            (λ p above. ap is_eq (above_other p above e)) pairs in
-            ap₂ (λ (a b : Option (Pair V)). shown (option_or a b)) low no_high ∙ ap shown (or_nothing (find (is_at other) pairs)))
+            (λ e. ap₂ (λ (a b : Option (Pair V)). shown (option_or a b)) (low_all pairs key other e) (high_none pairs key other e)
+            ∙ ap shown (or_nothing (find (is_at other) pairs)))
       ] in
       ap shown parts ∙ step (key_cmp key other) refl
-    where
-      above_other : (p : Pair V) → is_above key p ≡ true → key_cmp key other ≡ Greater → key_cmp p.key other ≡ Greater
-      above_other p above e =
-          flipped p.key other (key_cmp_total.trans other key p.key (turned key other e) (turned p.key key (greater_is (key_cmp p.key key) above)))
+
+  -- a removal changes the value of its key alone
+  value_taken : (pairs : List (Pair V)) (key other : Key) → is_eq (key_cmp key other) ≡ false → value_at (without pairs key) other ≡ value_at pairs other
+  value_taken pairs key other differs =
+      let shown : Option (Pair V) → Option V = option_map (λ (pair : Pair V). pair.value) in
+      let lows : List (Pair V) = filter (is_below key) pairs in
+      let highs : List (Pair V) = filter (is_above key) pairs in
+      let step : (o : Ordering) → key_cmp key other ≡ o → is_eq o ≡ false → shown (option_or (find (is_at other) lows) (find (is_at other) highs)) ≡ value_at pairs other =
+      elim [
+        | Less ↦ (λ e no. ap₂ (λ (a b : Option (Pair V)). shown (option_or a b)) (low_none pairs key other e) (high_all pairs key other e))
+        | Equal ↦ (λ e no. absurd (let bad : true ≡ false = no in cc))
+        | Greater ↦
+            (λ e no. ap₂ (λ (a b : Option (Pair V)). shown (option_or a b)) (low_all pairs key other e) (high_none pairs key other e)
+            ∙ ap shown (or_nothing (find (is_at other) pairs)))
+      ] in
+      ap shown (find-append (is_at other) lows highs) ∙ step (key_cmp key other) refl differs
 
 -- ---- notes
 
@@ -179,3 +201,16 @@ noted_more notes made start changes i version change own table key within is at 
     ∙ both any (is_of table key change)
     ∙ ap (λ (b : Bool). if b then Some version else old)
     (sym (ap (list_any (is_of table key)) (take_at changes i change within is) ∙ list_any-append (is_of table key) (take i changes) (change ∷ [])))
+
+-- ---- notes that are removed
+
+-- a removal leaves what is noted above a version, where none such is noted at the key
+pub stay_taken : (notes : List (Pair ℕ)) (own : Key) (version : ℕ) → ((noted : ℕ) → version < noted → value_at notes own ≡ Some noted → ⊥) → NotesStay version notes (without notes own)
+stay_taken notes own version stale =
+    λ noted above key has.
+    let step : (b : Bool) → is_eq (key_cmp own key) ≡ b → value_at (without notes own) key ≡ Some noted =
+    elim [
+      | true ↦ (λ e. let same : own ≡ key = key_cmp_exact own key (equal_is (key_cmp own key) e) in absurd (stale noted above (ap (value_at notes) same ∙ has)))
+      | false ↦ (λ e. value_taken notes own key e ∙ has)
+    ] in
+    step (is_eq (key_cmp own key)) refl

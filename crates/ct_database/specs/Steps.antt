@@ -1,5 +1,5 @@
 -- What the parts of a database in memory keep, and the steps of its code. No promise speaks of them.
-use Rattle.std.specs.Prelude.{◌≡◌, ◌⊎◌, ℕ, ◌^◌, ◌<◌, ◌≤◌, pos, ◌-ℤ◌, Bool, false, nat_lt, ◌==◌, ◌&&◌, List, [], ◌∷◌, ◌++◌, length, map, filter, Option, None, Some, if◌then◌else◌}
+use Rattle.std.specs.Prelude.{◌≡◌, ℕ, ◌^◌, ◌<◌, ◌≤◌, pos, ◌-ℤ◌, Bool, false, nat_lt, ◌==◌, ◌&&◌, List, [], ◌∷◌, ◌++◌, length, map, filter, flat_map, Option, None, Some, if◌then◌else◌}
 use Rattle.std.specs.List.{AllByRecursion}
 use Rattle.std.specs.Ordering.{is_eq}
 use Rattle.std.specs.declared.sync.Arc.{Arc}
@@ -26,6 +26,11 @@ pub record AreListed (catalogue : List Catalogued) (tables : List Table) : Type 
   pub same : catalogue ≡ map catalogued tables
   pub numbered : AreNumbered 1 tables
 
+-- the catalogue behind a pointer, if there is one
+abbrev pub listed_of : {Z : Type 0} → Option (Arc (List Catalogued) Z) → List Catalogued
+listed_of None = []
+listed_of (Some it) = it.value
+
 -- no commit is above a version
 abbrev pub AreWithin : ℕ → List Kept → Type 0
 AreWithin version = AllByRecursion (λ one. one.version ≤ version)
@@ -48,9 +53,29 @@ AreNewest kept = AllByRecursion (λ one. AllByRecursion (λ old. old.version < o
 
 -- ---- the commits that are stored
 
+-- the versions of commits rise strictly
+abbrev pub Rise : List Kept → Type 0
+Rise = EachToLater (λ one later. one.version < later.version)
+
+-- a commit has a version
+abbrev pub is_version : ℕ → Kept → Bool
+is_version version one = one.version == version
+
 -- the key of a version: the i64 that stands among all i64 as the version among all u64
 unfoldable pub version_key : ℕ → Key
 version_key version = record { 0 = Int (pos version -ℤ pos (2 ^ 63)) ∷ [] }
+
+-- a commit is the last one
+abbrev pub EndsWith : Kept → List Kept → Type 0
+EndsWith one commits = (front : List Kept) × (commits ≡ front ++ one ∷ [])
+
+-- a key is that of the last version
+abbrev pub EndsAt : Key → List Kept → Type 0
+EndsAt key commits = (one : Kept) × EndsWith one commits × (key ≡ version_key one.version)
+
+-- no table needs one of some commits
+abbrev pub AreUnneeded : List Table → List Kept → Type 0
+AreUnneeded tables = AllByRecursion (λ one. commit_stays tables one ≡ false)
 
 -- the stored commits, and whether one more takes no memory
 pub record StoredCommits : Type 0 where
@@ -58,35 +83,40 @@ pub record StoredCommits : Type 0 where
   pub has_room : Bool
 
 module _ {Z : Type 0} where
-  -- the commits of a tree
-  abbrev pub commits_of : List (Pair (Arc Kept Z)) → List Kept
-  commits_of = map (λ (pair : Pair (Arc Kept Z)). pair.value.value)
+  -- the commits behind pointers
+  abbrev pub pointed : List (Arc Kept Z) → List Kept
+  pointed = map (λ (it : Arc Kept Z). it.value)
 
   -- the commit behind a pointer, if there is one
   abbrev pub newest_of : Option (Arc Kept Z) → List Kept
   newest_of None = []
   newest_of (Some it) = it.value ∷ []
 
-  -- those of a tree and the newest, for which there is room where it is not there
-  abbrev pub stored : List (Pair (Arc Kept Z)) → Option (Arc Kept Z) → StoredCommits
-  stored older newest = record { commits = commits_of older ++ newest_of newest; has_room = length (newest_of newest) == 0 }
+  -- the older ones and the newest, for which there is room where it is not there
+  abbrev pub stored : List Kept → Option (Arc Kept Z) → StoredCommits
+  stored older newest = record { commits = older ++ newest_of newest; has_room = length (newest_of newest) == 0 }
 
-  -- each commit of a tree stands at the key of its version
-  abbrev pub AreAtVersions : List (Pair (Arc Kept Z)) → Type 0
-  AreAtVersions = AllByRecursion (λ (pair : Pair (Arc Kept Z)). pair.key ≡ version_key pair.value.value.version)
+  -- the commits of a chunk, if there is one
+  abbrev pub gone_of : Option (Arc (List Kept) Z) → List Kept
+  gone_of None = []
+  gone_of (Some it) = it.value
 
-  -- so they do, and the newest is above them
-  abbrev pub AreByVersion : List (Pair (Arc Kept Z)) → Option (Arc Kept Z) → Type 0
-  AreByVersion older newest = AreAtVersions older × AreNewest (commits_of older) (newest_of newest)
+  -- the commits of chunks, one chunk after the other
+  abbrev pub commits_of : List (Pair (Arc (List Kept) Z)) → List Kept
+  commits_of = flat_map (λ (pair : Pair (Arc (List Kept) Z)). pair.value.value)
 
-  -- the first commit of a tree stands at this key, and no table needs it
-  abbrev pub BeginsUnneeded : List Table → List (Pair (Arc Kept Z)) → Key → Type 0
-  BeginsUnneeded tables [] key = ⊥
-  BeginsUnneeded tables (first ∷ rest) key = (first.key ≡ key) × (commit_stays tables first.value.value ≡ false)
+  -- those, and the recent ones behind them
+  abbrev pub older_of : List (Pair (Arc (List Kept) Z)) → List Kept → List Kept
+  older_of sealed recent = commits_of sealed ++ recent
 
--- nothing was removed, or the first commit, which no table needs
-abbrev pub IsSwept : List Table → List Kept → List Kept → Type 0
-IsSwept tables old new = (new ≡ old) ⊎ ((first : Kept) × (old ≡ first ∷ new) × (commit_stays tables first ≡ false))
+  -- each chunk stands at the key of its last version
+  abbrev pub AreAtLasts : List (Pair (Arc (List Kept) Z)) → Type 0
+  AreAtLasts = AllByRecursion (λ (pair : Pair (Arc (List Kept) Z)). EndsAt pair.key pair.value.value)
+
+  -- this is the first chunk and its key, and no table needs one of its commits
+  abbrev pub BeginsUnneeded : List Table → List (Pair (Arc (List Kept) Z)) → Pair (Arc (List Kept) Z) → Type 0
+  BeginsUnneeded tables [] made = ⊥
+  BeginsUnneeded tables (first ∷ rest) made = (first.key ≡ made.key) × (first.value.value ≡ made.value.value) × AreUnneeded tables first.value.value
 
 -- ---- the last change of a key
 
@@ -122,10 +152,6 @@ abbrev pub last_in : ℕ → Key → List Kept → Option Dated
 last_in table key [] = None
 last_in table key (one ∷ kept) = or_first (last_here table one.version key one.changes) (last_in table key kept)
 
--- the versions of commits rise strictly
-abbrev pub Rise : List Kept → Type 0
-Rise = EachToLater (λ one later. one.version < later.version)
-
 -- where a note on a key of a table stands: at the table's id, and then the key
 unfoldable pub own_key : ℕ → Key → Key
 own_key table key = record { 0 = Int (pos table) ∷ key.0 }
@@ -137,3 +163,12 @@ IsNoted table key older noted = (last : Dated) → last_in table key older ≡ S
 -- so it is of all that the newest commit does not change
 abbrev pub AreNoted : List Kept → List Kept → List (Pair ℕ) → Type 0
 AreNoted older newest notes = (table : ℕ) (key : Key) → last_in table key newest ≡ None → IsNoted table key older (value_at notes (own_key table key))
+
+-- the same, if notes are made at all
+abbrev pub MayBeNoted : List Kept → List Kept → Option (List (Pair ℕ)) → Type 0
+MayBeNoted older newest None = Unit {0}
+MayBeNoted older newest (Some notes) = AreNoted older newest notes
+
+-- what is noted above a version stays noted
+abbrev pub NotesStay : ℕ → List (Pair ℕ) → List (Pair ℕ) → Type 0
+NotesStay version old new = (noted : ℕ) → version < noted → (key : Key) → value_at old key ≡ Some noted → value_at new key ≡ Some noted

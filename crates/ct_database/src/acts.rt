@@ -1,9 +1,10 @@
-ghost use Rattle.std.specs.Prelude.{◌≡◌, map, fold};
+ghost use Rattle.std.specs.Prelude.{◌≡◌, IfOk, map, fold};
 ghost use Rattle.ct_model.specs.Apply.{tracked_as, truncated, raised, with_min};
 ghost use Rattle.ct_model.specs.Tables.{catalogued};
 
 use ct_source::Stored;
-use ct_types::{Catalogued, Min, Tracked};
+use ct_types::{Catalogued, Copies, List, Memory, Min, Tracked, push};
+use std::alloc::Global;
 
 /// The tracking with another minimum, where there is one.
 fn at_min(min: u64, tracked: Option<Tracked>) -> Option<Tracked>
@@ -23,13 +24,23 @@ fn truncate_one(table: &mut Stored, id: u32, version: u64, draws: bool)
     }
 }
 
-/// Removes the rows of a table, which gets this version as its minimum where the entry draws.
-pub(crate) fn truncate(tables: &mut [Stored], id: u32, version: u64, draws: bool)
-    ensures { tables.new ≡ map (truncated id version draws) tables.old }
+/// The tables, one of them without its rows and with this version as its minimum where the entry draws.
+pub(crate) fn truncate(
+    alloc: Global,
+    tables: &[Stored],
+    id: u32,
+    version: u64,
+    draws: bool,
+) -> Result<Vec<Stored>, Memory>
+    ensures { IfOk result (λ made. made.items ≡ map (truncated id version draws) tables.now) }
 {
-    for table in tables.iter_mut() {
-        truncate_one(table, id, version, draws);
+    let mut made = Vec::with_capacity(alloc, tables.len())?;
+    for table in tables {
+        let mut table = table.share()?;
+        truncate_one(&mut table, id, version, draws);
+        made.push(table)?;
     }
+    Ok(made)
 }
 
 fn track_one(table: &mut Stored, id: u32, tracked: Option<Tracked>)
@@ -40,13 +51,22 @@ fn track_one(table: &mut Stored, id: u32, tracked: Option<Tracked>)
     }
 }
 
-/// Tracks a table in another way, or no more.
-pub(crate) fn track(tables: &mut [Stored], id: u32, tracked: Option<Tracked>)
-    ensures { tables.new ≡ map (tracked_as id tracked) tables.old }
+/// The tables, one of them tracked in another way or no more.
+pub(crate) fn track(
+    alloc: Global,
+    tables: &[Stored],
+    id: u32,
+    tracked: Option<Tracked>,
+) -> Result<Vec<Stored>, Memory>
+    ensures { IfOk result (λ made. made.items ≡ map (tracked_as id tracked) tables.now) }
 {
-    for table in tables.iter_mut() {
-        track_one(table, id, tracked);
+    let mut made = Vec::with_capacity(alloc, tables.len())?;
+    for table in tables {
+        let mut table = table.share()?;
+        track_one(&mut table, id, tracked);
+        made.push(table)?;
     }
+    Ok(made)
 }
 
 fn raise_one(table: &mut Stored, listed: Min)
@@ -57,36 +77,42 @@ fn raise_one(table: &mut Stored, listed: Min)
     }
 }
 
-fn raise(tables: &mut [Stored], listed: Min)
-    ensures { tables.new ≡ map (raised listed) tables.old }
-{
-    for table in tables.iter_mut() {
-        raise_one(table, listed);
-    }
-}
-
-/// Gives the listed tables the listed minima.
-pub(crate) fn raise_all(tables: &mut [Stored], minima: &[Min])
-    ensures { tables.new ≡ fold (λ before listed. map (raised listed) before) tables.old minima.now }
+/// Gives a table the minima that are listed for it, in their order.
+fn raise_each(table: &mut Stored, minima: &[Min])
+    ensures { table.new ≡ fold (λ before listed. raised listed before) table.old minima.now }
 {
     for listed in minima {
-        raise(tables, *listed);
+        raise_one(table, *listed);
     }
 }
 
-fn list_one(listed: &mut Catalogued, table: &Stored)
-    requires { listed.old.schema ≡ table.now.schema }
-    ensures { listed.new ≡ catalogued table.now }
+/// The tables with the listed minima.
+pub(crate) fn raise(alloc: Global, tables: &[Stored], minima: &[Min]) -> Result<Vec<Stored>, Memory>
+    ensures { IfOk result (λ made. made.items ≡ map (λ table. fold (λ before listed. raised listed before) table minima.now) tables.now) }
 {
-    listed.tracked = table.tracked();
+    let mut made = Vec::with_capacity(alloc, tables.len())?;
+    for table in tables {
+        let mut table = table.share()?;
+        raise_each(&mut table, minima);
+        made.push(table)?;
+    }
+    Ok(made)
 }
 
-/// Brings the catalogue of tables up to how they are tracked.
-pub(crate) fn list_again(catalogue: &mut [Catalogued], tables: &[Stored])
-    requires { map (λ listed. listed.schema) catalogue.old ≡ map (λ table. table.schema) tables.now }
-    ensures { catalogue.new ≡ map catalogued tables.now }
+/// The catalogue of tables.
+pub(crate) fn list(alloc: Global, tables: &[Stored]) -> Result<List<Catalogued>, Memory>
+    ensures { IfOk result (λ made. made ≡ map catalogued tables.now) }
 {
-    for (at, listed) in catalogue.iter_mut().enumerate() {
-        list_one(listed, &tables[at]);
+    let mut made = List::new(alloc);
+    for table in tables {
+        let schema = table.schema().copy(alloc)?;
+        push(
+            &mut made,
+            Catalogued {
+                schema,
+                tracked: table.tracked(),
+            },
+        )?;
     }
+    Ok(made)
 }

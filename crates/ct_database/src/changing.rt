@@ -1,4 +1,4 @@
-ghost use Rattle.std.specs.Prelude.{◌≡◌, ◌++◌, OnOk, OnErr};
+ghost use Rattle.std.specs.Prelude.{◌≡◌, ◌++◌, true, OnOk, OnErr};
 ghost use Rattle.ct_model.specs.Apply.{keep_after, tables_after};
 ghost use Rattle.ct_database.specs.Storable.{IsActStorable};
 ghost use Rattle.ct_database.specs.Steps.{AreNewest, newest_of};
@@ -28,34 +28,22 @@ fn change_tables(tables: &mut Tables, act: Act, version: u64, draws: bool) -> Re
     match act {
         Act::Commit(writes) => tables.write(writes),
         Act::Define(schema) => tables.define(schema),
-        Act::Truncate(id) => {
-            tables.truncate(id, version, draws);
-            Ok(())
-        }
-        Act::Enable { table, masks } => {
-            tables.track(
-                table,
-                Some(Tracked {
-                    min: version,
-                    masks,
-                }),
-            );
-            Ok(())
-        }
-        Act::Disable(id) => {
-            tables.track(id, None);
-            Ok(())
-        }
+        Act::Truncate(id) => tables.truncate(id, version, draws),
+        Act::Enable { table, masks } => tables.track(
+            table,
+            Some(Tracked {
+                min: version,
+                masks,
+            }),
+        ),
+        Act::Disable(id) => tables.track(id, None),
         Act::Database(_) => Ok(()),
-        Act::Raise(minima) => {
-            tables.raise(minima.as_slice());
-            Ok(())
-        }
+        Act::Raise(minima) => tables.raise(minima.as_slice()),
     }
 }
 
-/// Does to the tables what an act does, and stores the commit of its entry, if that draws one. What was stored stays, also where
-/// no table needs it any more. Want of memory leaves both as they were.
+/// Does to the tables what an act does, and stores the commit of its entry, if that draws one, for which there is room. What was
+/// stored stays, also where no table needs it any more. Want of memory leaves both as they were.
 pub(crate) fn act_on(
     tables: &mut Tables,
     kept: &mut Commits,
@@ -65,13 +53,13 @@ pub(crate) fn act_on(
     draws: bool,
 ) -> Result<(), Memory>
     requires storable { IsActStorable tables.old act }
+    requires room { kept.old.has_room ≡ true }
     requires above { AreNewest kept.old.commits (newest_of fresh) }
     ensures tables { OnOk result (tables.new ≡ tables_after act version draws tables.old) }
     ensures kept { OnOk result (kept.new.commits ≡ kept.old.commits ++ newest_of fresh) }
     ensures unchanged { OnErr result (tables.new ≡ tables.old) }
     ensures unkept { OnErr result (kept.new.commits ≡ kept.old.commits) }
 {
-    kept.make_room()?;
     change_tables(tables, act, version, draws)?;
     kept.push(fresh);
     Ok(())

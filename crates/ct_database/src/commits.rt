@@ -2,16 +2,16 @@ ghost use Rattle.std.specs.Prelude.{◌≡◌, ℕ, ◌++◌, ◌∷◌, [], tru
 ghost use Rattle.ct_model.specs.Apply.{trim};
 ghost use Rattle.ct_source.specs.Rows.{lent};
 ghost use Rattle.ct_database.specs.Commits.{committed};
-ghost use Rattle.ct_database.specs.Steps.{AreAtVersions, AreNewest, AreWithin, commits_of, newest_of, is_later};
+ghost use Rattle.ct_database.specs.Steps.{AreNewest, AreWithin, newest_of, is_later};
 ghost use Rattle.ct_model.specs.Net.{changes_above, last_of, window};
 ghost use Rattle.ct_model.specs.Versions.{version_row_of};
 
 use crate::committed::Committed;
+use crate::forgotten::forget_chunk;
 use crate::last::{last_change, older_last, row_above};
-use crate::noted::note;
-use crate::sweeping::sweep_one;
-use crate::told::{told, told_newest};
-use crate::version::version_key;
+use crate::noted::note_newest;
+use crate::older::Older;
+use crate::told::told_newest;
 use ct_ptree::Tree;
 use ct_source::Stored;
 use ct_types::{Kept, Key, List, Memory, VersionRow, push};
@@ -19,40 +19,30 @@ use std::alloc::Global;
 use std::marker::Model;
 use std::sync::Arc;
 
+/// The most chunks that are given back where one is made. It is more than one, so that what is not needed goes in the end.
+const SWEPT: usize = 2;
+
 /// The commits that are stored, by strictly rising version: those that count, and some that no table needs any more.
 ///
-/// The newest stands beside the tree of the older ones until it has to make room for the next: so a commit is added, or taken
-/// back, without memory. A share has in common what did not change, and costs the same whatever the number of commits.
+/// The newest stands beside the older ones until it has to make room for the next: so a commit is added without memory.
 #[derive(Drop)]
 pub(crate) struct Commits {
     alloc: Global,
-    older: Tree<Arc<Kept>>,
+    older: Older,
     newest: Option<Arc<Kept>>,
-    /// The version of the last change of each key of a table among the older ones, but for keys that the newest changes too. A note
-    /// stays when its commit is removed.
-    lasts: Tree<u64>,
+    /// The version of the last change of each key of a table among the older ones, but for keys that the newest changes too. None
+    /// until notes are asked for. A note may stay when its commit is removed.
+    lasts: Option<Tree<u64>>,
 }
 
 impl Model for Commits {
-    ghost use Rattle.ct_database.specs.Steps.{StoredCommits, stored, commits_of, newest_of, AreByVersion, AreNoted};
+    ghost use Rattle.ct_database.specs.Steps.{StoredCommits, stored, newest_of, AreNewest, MayBeNoted};
 
     ghost Value = { StoredCommits };
 
     ghost view = { λ it. stored it.older it.newest };
 
-    ghost invariant = { λ it. AreByVersion it.older it.newest × AreNoted (commits_of it.older) (newest_of it.newest) it.lasts };
-}
-
-/// Puts a commit that is above all older ones behind them.
-fn settle(alloc: Global, older: &mut Tree<Arc<Kept>>, newest: &Arc<Kept>) -> Result<(), Memory>
-    requires keyed { AreAtVersions older.old }
-    requires above { AreNewest (commits_of older.old) (newest.now.value ∷ []) }
-    ensures keyed { AreAtVersions older.new }
-    ensures ok { OnOk result (commits_of older.new ≡ commits_of older.old ++ newest.now.value ∷ []) }
-    ensures err { OnErr result (commits_of older.new ≡ commits_of older.old) }
-{
-    let key = version_key(alloc, newest.version)?;
-    older.put(key, Arc::try_clone(newest)?)
+    ghost invariant = { λ it. AreNewest it.older (newest_of it.newest) × MayBeNoted it.older (newest_of it.newest) it.lasts };
 }
 
 /// The same commit once more, if there is one.
@@ -65,19 +55,14 @@ fn share_newest(newest: &Option<Arc<Kept>>) -> Result<Option<Arc<Kept>>, Memory>
     }
 }
 
-/// The commits of a tree that are above a version, lent.
-fn older_since(alloc: Global, older: &Tree<Arc<Kept>>, version: u64) -> Result<List<&Kept>, Memory>
-    requires { AreAtVersions older.now }
-    ensures { IfOk result (λ made. lent made ≡ filter (is_later version) (commits_of older.now)) }
+/// The same notes once more, if there are some.
+fn share_lasts(lasts: &Option<Tree<u64>>) -> Result<Option<Tree<u64>>, Memory>
+    ensures { IfOk result (λ made. made ≡ lasts.now) }
 {
-    let from = version_key(alloc, version)?;
-    let mut made = List::new(alloc);
-    for pair in older.range(&from) {
-        if version < pair.value.version {
-            push(&mut made, &*pair.value)?;
-        }
+    match lasts {
+        None => Ok(None),
+        Some(lasts) => Ok(Some(lasts.share()?)),
     }
-    Ok(made)
 }
 
 /// Lends the newest commit too, if it is above a version.
@@ -97,19 +82,19 @@ fn push_since<'a>(
 }
 
 impl Commits {
-    /// No commit. It takes no memory.
+    /// No commit, and no notes. It takes no memory.
     pub(crate) fn new(alloc: Global) -> Commits
         ensures { result ≡ record { commits = []; has_room = true } }
     {
         Commits {
             alloc,
-            older: Tree::new(alloc),
+            older: Older::new(alloc),
             newest: None,
-            lasts: Tree::new(alloc),
+            lasts: None,
         }
     }
 
-    /// The same commits once more, with no copy of one.
+    /// The same commits and notes once more, with no copy of one. It costs at most a pointer for each commit of a chunk.
     pub(crate) fn share(&self) -> Result<Commits, Memory>
         ensures { IfOk result (λ made. made ≡ self.now) }
     {
@@ -117,21 +102,21 @@ impl Commits {
             alloc: self.alloc,
             older: self.older.share()?,
             newest: share_newest(&self.newest)?,
-            lasts: self.lasts.share()?,
+            lasts: share_lasts(&self.lasts)?,
         })
     }
 
-    /// The commits above a version, lent. It costs those at or above it.
+    /// The commits above a version, lent. It costs those above it, and at most a chunk more.
     pub(crate) fn since(&self, version: u64) -> Result<List<&Kept>, Memory>
         ensures { IfOk result (λ made. lent made ≡ filter (is_later version) self.now.commits) }
     {
-        let mut made = older_since(self.alloc, &self.older, version)?;
+        let mut made = self.older.since(version)?;
         push_since(&mut made, &self.newest, version)?;
         Ok(made)
     }
 
-    /// The version and the context of the last change of a key among the commits above a version. It is a look-up, and copies the
-    /// context.
+    /// The version and the context of the last change of a key among the commits above a version. It is a look-up where notes are
+    /// made, and else a walk over those commits. It copies the context.
     pub(crate) fn last(
         &self,
         alloc: Global,
@@ -153,24 +138,50 @@ impl Commits {
     pub(crate) fn told(&self, alloc: Global, tables: &[Stored]) -> Result<List<Committed>, Memory>
         ensures { IfOk result (λ made. made ≡ map committed (trim tables.now self.now.commits)) }
     {
-        let mut made = told(alloc, tables, &self.older)?;
+        let mut made = self.older.told(alloc, tables)?;
         told_newest(&mut made, tables, &self.newest)?;
         Ok(made)
     }
 
-    /// Makes room for one more commit.
-    pub(crate) fn make_room(&mut self) -> Result<(), Memory>
+    /// Notes all that is stored, where nothing is noted yet. From then on each commit is noted.
+    pub(crate) fn note_versions(&mut self) -> Result<(), Memory>
+        ensures { self.new ≡ self.old }
+    {
+        if self.lasts.is_none() {
+            self.lasts = Some(self.older.notes()?);
+        }
+        Ok(())
+    }
+
+    /// Makes room for one more commit. Where a chunk of the older ones is full, up to two that no tracked table needs are removed
+    /// first, so that what is stored stays within what is needed, and a chunk or two.
+    pub(crate) fn make_room(&mut self, tables: &[Stored]) -> Result<(), Memory>
+        ensures room { OnOk result (self.new.has_room ≡ true) }
+        ensures counted { trim tables.now self.new.commits ≡ trim tables.now self.old.commits }
+        ensures within { (version : ℕ) → AreWithin version self.old.commits → AreWithin version self.new.commits }
+    {
+        if self.older.is_full() {
+            self.sweep(tables, SWEPT)?;
+            self.seal()?;
+        }
+        self.settle()
+    }
+
+    /// Makes a chunk of the older commits that are in none.
+    fn seal(&mut self) -> Result<(), Memory>
+        ensures { self.new ≡ self.old }
+    {
+        self.older.seal()
+    }
+
+    /// Puts the newest commit to the older ones, if there is one.
+    fn settle(&mut self) -> Result<(), Memory>
         ensures room { OnOk result (self.new.has_room ≡ true) }
         ensures same { self.new.commits ≡ self.old.commits }
     {
         if let Some(newest) = &self.newest {
-            note(
-                self.alloc,
-                &mut self.lasts,
-                newest.version,
-                newest.changes.as_slice(),
-            )?;
-            settle(self.alloc, &mut self.older, newest)?;
+            note_newest(self.alloc, &mut self.lasts, newest)?;
+            self.older.push(newest)?;
             self.newest = None;
         }
         Ok(())
@@ -185,7 +196,7 @@ impl Commits {
         self.newest = one;
     }
 
-    /// Removes up to so many of the oldest commits that no tracked table needs. The newest is not among them.
+    /// Removes up to so many of the oldest chunks of which no tracked table needs a commit, and what is noted of them.
     pub(crate) fn sweep(&mut self, tables: &[Stored], most: usize) -> Result<(), Memory>
         ensures counted { trim tables.now self.new.commits ≡ trim tables.now self.old.commits }
         ensures within { (version : ℕ) → AreWithin version self.old.commits → AreWithin version self.new.commits }
@@ -198,11 +209,15 @@ impl Commits {
         Ok(())
     }
 
-    /// Removes the oldest commit, if no tracked table needs it, and tells whether it did.
+    /// Removes the oldest chunk, if no tracked table needs a commit of it, and tells whether it did.
     fn sweep_one(&mut self, tables: &[Stored]) -> Result<bool, Memory>
         ensures counted { trim tables.now self.new.commits ≡ trim tables.now self.old.commits }
         ensures within { (version : ℕ) → AreWithin version self.old.commits → AreWithin version self.new.commits }
     {
-        sweep_one(self.alloc, &mut self.older, tables)
+        self.older.rise();
+        match self.older.take_unneeded(tables)? {
+            None => Ok(false),
+            Some(gone) => forget_chunk(self.alloc, &mut self.lasts, &gone).map(|()| true),
+        }
     }
 }

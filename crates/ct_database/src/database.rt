@@ -21,17 +21,17 @@ use std::marker::Model;
 
 /// The database in memory, which contracts see as the plain database.
 ///
-/// A commit that no tracked table needs any more stays stored until [`Database::sweep`] removes it. So do changes of a table up to
-/// its minimum, or of one that is tracked no more, while another table needs their commit. They do not count: no call shows them.
-/// What is noted of a key, the version of its last change, stays: a few bytes for each key of a tracked table that was ever changed.
+/// Commits stand in chunks of 64. A commit that no tracked table needs any more stays stored until its whole chunk goes: a later
+/// [`Database::apply`] or [`Database::sweep`] removes it. So do changes of a table up to its minimum, or of one that is tracked no
+/// more, while another table needs a commit of their chunk. They do not count: no call shows them.
 #[derive(Drop)]
 pub struct Database {
-    alloc: Global,
+    pub(crate) alloc: Global,
     version: u64,
     time: u64,
     last_xdes: u64,
     keep: Option<Keep>,
-    tables: Tables,
+    pub(crate) tables: Tables,
     kept: Commits,
 }
 
@@ -94,7 +94,7 @@ impl Database {
     /// The net changes of a table above a version: one row for each key that changed, in key order. None names the table's
     /// minimum, and so does a version below it. A table that is not tracked, or is none, has no net changes.
     ///
-    /// It costs the changes of the commits above the version, and not all that is kept.
+    /// It costs the changes of the commits above the version, at most a chunk of commits more, and not all that is kept.
     #[tactic(auto, unfolding(ct_model::specs::Net::net))]
     pub fn net(&self, alloc: Global, table: u32, since: Option<i64>) -> Result<List<NetRow>, Memory>
         ensures { IfOk result (λ made. made ≡ net_changes self.now table since) }
@@ -113,8 +113,9 @@ impl Database {
 
     /// The version and the context of the last kept change of a key, or none of both.
     ///
-    /// It is a look-up of what is noted of the key, one of the commit with that version, and a walk over that commit's changes. It
-    /// copies the key and the context, which takes memory.
+    /// It is a walk over the commits above the table's minimum until [`Database::note_versions`] was called. From then on it is a
+    /// look-up of what is noted of the key, one of the commit with that version, and a walk over that commit's changes. It copies the
+    /// key and the context, which takes memory.
     pub fn row_version(&self, alloc: Global, table: u32, key: &Key) -> Result<VersionRow, Memory>
         ensures { IfOk result (λ made. made ≡ row_version_of self.now table key.now) }
     {
@@ -122,8 +123,9 @@ impl Database {
         last_counted(alloc, self.tables.table(table), &self.kept, key)
     }
 
-    /// The same database once more, with no copy of a row or a commit: its cost grows with the number of tables alone. Either is
-    /// then changed without the other, and a change copies what it touches and the other holds too: a leaf, a branch and a root.
+    /// The same database once more, with no copy of a row or a commit: its cost grows with the number of tables alone, beside at
+    /// most 64 pointers to commits. Either is then changed without the other, and a change copies what it touches and the other holds
+    /// too: a leaf, a branch and a root. A share has the notes that the database has.
     pub fn share(&self, alloc: Global) -> Result<Database, Memory>
         ensures { IfOk result (λ made. made ≡ self.now) }
     {
@@ -138,8 +140,16 @@ impl Database {
         })
     }
 
-    /// Gives back the memory of up to so many of the oldest commits that are stored and that no tracked table needs. The database
-    /// stays the same, also where memory is wanted: the removal of what a share holds too copies its path.
+    /// From now on the last version of each key is noted, so that [`Database::row_version`] is a look-up. The first call costs the
+    /// stored commits, each later one nothing. The database stays the same, also where memory is wanted: then nothing is noted yet.
+    pub fn note_versions(&mut self) -> Result<(), Memory>
+        ensures { self.new ≡ self.old }
+    {
+        self.kept.note_versions()
+    }
+
+    /// Gives back the memory of up to so many of the oldest chunks of 64 commits of which no tracked table needs one, and of what is
+    /// noted of them. The database stays the same, also where memory is wanted: the removal of what a share holds too copies its path.
     pub fn sweep(&mut self, most: usize) -> Result<(), Memory>
         ensures { self.new ≡ self.old }
     {
@@ -148,8 +158,9 @@ impl Database {
 
     /// Makes of the database what one committed entry makes of it, in place, at the cost of what the entry touches.
     ///
-    /// No act removes a commit: an act that raises minima, or tracks a table no more, leaves those that no table needs to
-    /// [`Database::sweep`]. Want of memory leaves the database as it was.
+    /// No act itself removes a commit, also where it raises minima or tracks a table no more. But each entry that finds 64 commits
+    /// since the last chunk makes a chunk of them, and first removes up to two of the oldest chunks that no table needs: so what is
+    /// stored stays near what is needed. Want of memory leaves the database as it was.
     #[tactic(auto, unfolding(ct_model::specs::Apply::apply))]
     pub fn apply(&mut self, entry: Entry) -> Result<(), Memory>
         requires { IsStorable self.old entry }
@@ -159,6 +170,7 @@ impl Database {
         self.tables.are_numbered();
         let fresh = commit_of(self.alloc, &entry)?;
         let keep = keep_of(&entry.act, self.keep);
+        self.kept.make_room(self.tables.as_slice())?;
         let Entry {
             version,
             draws,

@@ -1,19 +1,19 @@
 ghost use Rattle.std.specs.Prelude.{◌≡◌, ℕ, nat_lt, IfOk, None, Some, filter, if◌then◌else◌};
-ghost use Rattle.std.specs.Option.{option_copied, option_map};
+ghost use Rattle.std.specs.Option.{IfSome, option_copied, option_map};
 ghost use Rattle.ct_model.specs.Net.{last_of, window};
 ghost use Rattle.ct_model.specs.Versions.{version_row_of};
 ghost use Rattle.ct_ptree.specs.Pairs.{value_at};
-ghost use Rattle.ct_database.specs.Steps.{AreAtVersions, IsNoted, Rise, commits_of, counted_of, counted_since, dated, is_later, is_of as is_of_key, last_here, last_in, own_key as key_of_own};
+ghost use Rattle.ct_source.specs.Rows.{lent};
+ghost use Rattle.ct_database.specs.Steps.{IsNoted, counted_of, counted_since, dated, is_later, is_of as is_of_key, last_here, last_in, own_key as key_of_own};
 
 use crate::commits::Commits;
 use crate::noted::own_key;
-use crate::version::version_key;
+use crate::older::Older;
 use ct_ptree::Tree;
 use ct_source::Stored;
 use ct_types::{Change, Copies, Kept, Key, Memory, VersionRow, cmp_key};
 use std::alloc::Global;
 use std::cmp::Ordering;
-use std::sync::Arc;
 
 /// Whether a change is one of a table and key.
 fn is_of(table: u32, key: &Key, change: &Change) -> bool
@@ -83,56 +83,82 @@ fn row_in(alloc: Global, table: u32, key: &Key, one: &Kept) -> Result<VersionRow
     }
 }
 
-/// The commits of a tree rise by version.
-#[tactic(auto, using(crate::proofs::Lasts::rise_of))]
-fn older_rise(older: &Tree<Arc<Kept>>)
-    requires { AreAtVersions older.now }
-    ensures { Rise (commits_of older.now) }
+/// The row of the last change of a key in commits, sought from the end.
+fn walked_last(
+    alloc: Global,
+    table: u32,
+    key: &Key,
+    commits: &[&Kept],
+) -> Result<VersionRow, Memory>
+    ensures { IfOk result (λ made. made ≡ version_row_of (last_in table key.now (lent commits.now))) }
 {
-    let _ = older.pairs();
+    let mut at = commits.len();
+    while at > 0 {
+        at -= 1;
+        let one = commits[at];
+        if let Some(change) = last_change(table, key, one.changes.as_slice()) {
+            return row_of(alloc, one.version, change);
+        }
+    }
+    Ok(no_row())
 }
 
 /// The row of the last change of a key above a version, where another version is noted as that of the last change.
 fn noted_last(
     alloc: Global,
-    older: &Tree<Arc<Kept>>,
+    older: &Older,
     version: u64,
     table: u32,
     floor: u64,
     key: &Key,
 ) -> Result<VersionRow, Memory>
-    requires keyed { AreAtVersions older.now }
-    requires noted { IsNoted table key.now (commits_of older.now) (Some version) }
-    ensures { IfOk result (λ made. made ≡ version_row_of (last_in table key.now (filter (is_later floor) (commits_of older.now)))) }
+    requires { IsNoted table key.now older.now (Some version) }
+    ensures { IfOk result (λ made. made ≡ version_row_of (last_in table key.now (filter (is_later floor) older.now))) }
 {
-    older_rise(older);
+    older.rise();
     if version <= floor {
         return Ok(no_row());
     }
-    let at = version_key(alloc, version)?;
-    match older.get(&at) {
+    match older.at(version)? {
         None => Ok(no_row()),
         Some(one) => row_in(alloc, table, key, one),
     }
 }
 
-/// The row of the last change of a key above a version in the commits of a tree, by the notes on them.
-pub(crate) fn older_last(
+/// The row of the last change of a key above a version, by the notes.
+fn looked_up_last(
     alloc: Global,
-    older: &Tree<Arc<Kept>>,
+    older: &Older,
     lasts: &Tree<u64>,
     table: u32,
     floor: u64,
     key: &Key,
 ) -> Result<VersionRow, Memory>
-    requires keyed { AreAtVersions older.now }
-    requires noted { IsNoted table key.now (commits_of older.now) (value_at lasts.now (key_of_own table key.now)) }
-    ensures { IfOk result (λ made. made ≡ version_row_of (last_in table key.now (filter (is_later floor) (commits_of older.now)))) }
+    requires { IsNoted table key.now older.now (value_at lasts.now (key_of_own table key.now)) }
+    ensures { IfOk result (λ made. made ≡ version_row_of (last_in table key.now (filter (is_later floor) older.now))) }
 {
     let own = own_key(alloc, table, key)?;
     match lasts.get(&own) {
         None => Ok(no_row()),
         Some(version) => noted_last(alloc, older, *version, table, floor, key),
+    }
+}
+
+/// The row of the last change of a key above a version: a look-up where notes are made, and else a walk.
+pub(crate) fn older_last(
+    alloc: Global,
+    older: &Older,
+    lasts: &Option<Tree<u64>>,
+    table: u32,
+    floor: u64,
+    key: &Key,
+) -> Result<VersionRow, Memory>
+    requires { IfSome lasts.now (λ notes. IsNoted table key.now older.now (value_at notes (key_of_own table key.now))) }
+    ensures { IfOk result (λ made. made ≡ version_row_of (last_in table key.now (filter (is_later floor) older.now))) }
+{
+    match lasts {
+        None => walked_last(alloc, table, key, older.since(floor)?.as_slice()),
+        Some(lasts) => looked_up_last(alloc, older, lasts, table, floor, key),
     }
 }
 

@@ -3,19 +3,23 @@
 
 mod acts;
 mod changing;
+mod chunk;
 mod commits;
 mod committed;
 mod database;
+mod forgotten;
 mod fresh;
 mod last;
 mod laws;
 mod needed;
 mod net;
 mod noted;
-mod sweeping;
+mod older;
+mod sealed;
 mod tables;
 mod told;
 mod version;
+mod waiting;
 mod writes;
 
 pub use committed::Committed;

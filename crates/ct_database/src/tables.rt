@@ -4,65 +4,49 @@ ghost use Rattle.std.specs.Option.{option_copied};
 ghost use Rattle.ct_model.specs.Apply.{written, tracked_as, truncated, raised};
 ghost use Rattle.ct_model.specs.Tables.{catalogued, table_of};
 ghost use Rattle.ct_model.specs.Valid.{AreNumbered};
+ghost use Rattle.ct_database.specs.Steps.{listed_of};
 ghost use Rattle.ct_database.specs.Storable.{IsWriteStorable, IsSchemaStorable};
 
 use crate::{acts, writes};
 use ct_source::Stored;
-use ct_types::{Catalogued, Copies, List, Memory, Min, Schema, Tracked, Write};
+use ct_types::{Catalogued, List, Memory, Min, Schema, Tracked, Write};
 use std::alloc::Global;
 use std::marker::Model;
+use std::sync::Arc;
 
 /// The tables by id from 1 on, and their catalogue.
+///
+/// What changes more than rows is done to shares of all tables, and makes a new catalogue: so shares have one catalogue in common.
 #[derive(Drop)]
 pub(crate) struct Tables {
     alloc: Global,
-    catalogue: Vec<Catalogued>,
+    /// None while there is no table.
+    catalogue: Option<Arc<List<Catalogued>>>,
     tables: Vec<Stored>,
 }
 
 impl Model for Tables {
     ghost use Rattle.std.specs.Prelude.{List};
     ghost use Rattle.ct_model.specs.declared.db.Table.{Table};
-    ghost use Rattle.ct_database.specs.Steps.{AreListed};
+    ghost use Rattle.ct_database.specs.Steps.{AreListed, listed_of};
 
     ghost Value = { List Table };
 
     ghost view = { λ it. it.tables.items };
 
-    ghost invariant = { λ it. AreListed it.catalogue.items it.tables.items };
-}
-
-/// Adds a table and lists it, or leaves both lists as they were where memory is wanted.
-fn add(
-    catalogue: &mut Vec<Catalogued>,
-    tables: &mut Vec<Stored>,
-    listed: Catalogued,
-    table: Stored,
-) -> Result<(), Memory>
-    ensures catalogue { OnOk result (catalogue.new.items ≡ catalogue.old.items ++ listed ∷ []) }
-    ensures tables { OnOk result (tables.new.items ≡ tables.old.items ++ table ∷ []) }
-    ensures unlisted { OnErr result (catalogue.new.items ≡ catalogue.old.items) }
-    ensures unchanged { OnErr result (tables.new.items ≡ tables.old.items) }
-{
-    catalogue.push(listed)?;
-    match tables.push(table) {
-        Ok(()) => Ok(()),
-        Err(_) => {
-            catalogue.pop();
-            Err(Memory)
-        }
-    }
+    ghost invariant = { λ it. AreListed (listed_of it.catalogue) it.tables.items };
 }
 
 /// The same catalogue once more.
-fn copied(alloc: Global, catalogue: &[Catalogued]) -> Result<Vec<Catalogued>, Memory>
-    ensures { IfOk result (λ made. made.items ≡ catalogue.now) }
+fn share_listed(
+    catalogue: &Option<Arc<List<Catalogued>>>,
+) -> Result<Option<Arc<List<Catalogued>>>, Memory>
+    ensures { IfOk result (λ made. listed_of made ≡ listed_of catalogue.now) }
 {
-    let mut made = Vec::with_capacity(alloc, catalogue.len())?;
-    for listed in catalogue {
-        made.push(listed.copy(alloc)?)?;
+    match catalogue {
+        None => Ok(None),
+        Some(catalogue) => Ok(Some(Arc::try_clone(catalogue)?)),
     }
-    Ok(made)
 }
 
 impl Tables {
@@ -72,7 +56,7 @@ impl Tables {
     {
         Tables {
             alloc,
-            catalogue: Vec::new(alloc),
+            catalogue: None,
             tables: Vec::new(alloc),
         }
     }
@@ -84,13 +68,13 @@ impl Tables {
         let _ = &self.tables;
     }
 
-    /// The same tables once more, with no copy of a row.
+    /// The same tables once more, with no copy of a row or a definition.
     pub(crate) fn share(&self, alloc: Global) -> Result<Tables, Memory>
         ensures { IfOk result (λ made. made ≡ self.now) }
     {
         Ok(Tables {
             alloc,
-            catalogue: copied(alloc, self.catalogue.as_slice())?,
+            catalogue: share_listed(&self.catalogue)?,
             tables: writes::shares(alloc, self.tables.as_slice())?,
         })
     }
@@ -99,7 +83,10 @@ impl Tables {
     pub(crate) fn catalogue(&self) -> &[Catalogued]
         ensures { result.now ≡ map catalogued self.now }
     {
-        self.catalogue.as_slice()
+        match &self.catalogue {
+            None => &[],
+            Some(catalogue) => catalogue.as_slice(),
+        }
     }
 
     /// The tables.
@@ -129,41 +116,54 @@ impl Tables {
         writes::write(self.alloc, &mut self.tables, writes)
     }
 
+    /// Has these tables, whose ids count from 1, in place of its own. Want of memory leaves its own.
+    fn replace(&mut self, tables: Vec<Stored>) -> Result<(), Memory>
+        requires { AreNumbered 1 tables.items }
+        ensures ok { OnOk result (self.new ≡ tables.items) }
+        ensures err { OnErr result (self.new ≡ self.old) }
+    {
+        let catalogue = acts::list(self.alloc, tables.as_slice())?;
+        self.catalogue = Some(Arc::new(self.alloc, catalogue)?);
+        self.tables = tables;
+        Ok(())
+    }
+
     /// Adds a table without rows, untracked. Want of memory leaves the tables as they were.
     pub(crate) fn define(&mut self, schema: Schema) -> Result<(), Memory>
         requires { IsSchemaStorable self.old schema }
         ensures ok { OnOk result (self.new ≡ self.old ++ record { schema = schema; rows = []; tracked = None } ∷ []) }
         ensures err { OnErr result (self.new ≡ self.old) }
     {
-        let listed = Catalogued {
-            schema: schema.copy(self.alloc)?,
-            tracked: None,
-        };
-        let table = Stored::new(self.alloc, schema)?;
-        add(&mut self.catalogue, &mut self.tables, listed, table)
+        let mut made = writes::shares(self.alloc, self.tables.as_slice())?;
+        made.push(Stored::new(self.alloc, schema)?)?;
+        self.replace(made)
     }
 
-    /// Removes the rows of a table, which gets this version as its minimum where the entry draws.
-    pub(crate) fn truncate(&mut self, id: u32, version: u64, draws: bool)
-        ensures { self.new ≡ map (truncated id version draws) self.old }
+    /// Removes the rows of a table, which gets this version as its minimum where the entry draws. Want of memory leaves the tables
+    /// as they were.
+    pub(crate) fn truncate(&mut self, id: u32, version: u64, draws: bool) -> Result<(), Memory>
+        ensures ok { OnOk result (self.new ≡ map (truncated id version draws) self.old) }
+        ensures err { OnErr result (self.new ≡ self.old) }
     {
-        acts::truncate(self.tables.as_mut_slice(), id, version, draws);
-        acts::list_again(self.catalogue.as_mut_slice(), self.tables.as_slice());
+        let made = acts::truncate(self.alloc, self.tables.as_slice(), id, version, draws)?;
+        self.replace(made)
     }
 
-    /// Tracks a table in another way, or no more.
-    pub(crate) fn track(&mut self, id: u32, tracked: Option<Tracked>)
-        ensures { self.new ≡ map (tracked_as id tracked) self.old }
+    /// Tracks a table in another way, or no more. Want of memory leaves the tables as they were.
+    pub(crate) fn track(&mut self, id: u32, tracked: Option<Tracked>) -> Result<(), Memory>
+        ensures ok { OnOk result (self.new ≡ map (tracked_as id tracked) self.old) }
+        ensures err { OnErr result (self.new ≡ self.old) }
     {
-        acts::track(self.tables.as_mut_slice(), id, tracked);
-        acts::list_again(self.catalogue.as_mut_slice(), self.tables.as_slice());
+        let made = acts::track(self.alloc, self.tables.as_slice(), id, tracked)?;
+        self.replace(made)
     }
 
-    /// Gives the listed tables the listed minima.
-    pub(crate) fn raise(&mut self, minima: &[Min])
-        ensures { self.new ≡ fold (λ before listed. map (raised listed) before) self.old minima.now }
+    /// Gives the listed tables the listed minima. Want of memory leaves the tables as they were.
+    pub(crate) fn raise(&mut self, minima: &[Min]) -> Result<(), Memory>
+        ensures ok { OnOk result (self.new ≡ fold (λ before listed. map (raised listed) before) self.old minima.now) }
+        ensures err { OnErr result (self.new ≡ self.old) }
     {
-        acts::raise_all(self.tables.as_mut_slice(), minima);
-        acts::list_again(self.catalogue.as_mut_slice(), self.tables.as_slice());
+        let made = acts::raise(self.alloc, self.tables.as_slice(), minima)?;
+        self.replace(made)
     }
 }

@@ -4,7 +4,7 @@ use Rattle.std.specs.List.{AllByRecursion, list_any, prefix_len}
 use Rattle.std.proofs.lemmas.List.Elements.{filter-append}
 use Rattle.std.proofs.lemmas.List.Folds.{list_any_more}
 use Rattle.ct_types.specs.declared.value.Key.{Key}
-use Rattle.ct_locks.specs.declared.held.Taken.{Taken}
+use Rattle.ct_locks.specs.declared.taken.Taken.{Taken}
 use Rattle.ct_locks.specs.Holders.{Lock, is_of, locks_of, holds, place_in}
 use Rattle.ct_locks.specs.Holdings.{Holding, lock_of, all_locks, Rises, is_on, is_of_table, blocks}
 
@@ -24,7 +24,7 @@ all_at P [] i d within all = absurd (omega arith)
 all_at P (x ∷ xs) zero d within all = all.0
 all_at P (x ∷ xs) (suc i) d within all = all_at P xs i d (omega arith) all.1
 
-any_map : {X Y : Type 0} (p : Y → Bool) (f : X → Y) (xs : List X) → list_any p (map f xs) ≡ list_any (λ x. p (f x)) xs
+pub any_map : {X Y : Type 0} (p : Y → Bool) (f : X → Y) (xs : List X) → list_any p (map f xs) ≡ list_any (λ x. p (f x)) xs
 any_map p f [] = refl
 any_map p f (x ∷ xs) = ap (λ b. p (f x) || b) (any_map p f xs)
 
@@ -36,7 +36,7 @@ pub length_map : {X Y : Type 0} (f : X → Y) (xs : List X) → length (map f xs
 length_map f [] = refl
 length_map f (x ∷ xs) = ap suc (length_map f xs)
 
-position_map : {X Y : Type 0} (p : Y → Bool) (f : X → Y) (xs : List X) → position p (map f xs) ≡ position (λ x. p (f x)) xs
+pub position_map : {X Y : Type 0} (p : Y → Bool) (f : X → Y) (xs : List X) → position p (map f xs) ≡ position (λ x. p (f x)) xs
 position_map p f xs =
     ap₂ (λ (n m : ℕ). cond (nat_lt n m) (Some n) None) (prefix_map (λ y. not (p y)) f xs) (length_map f xs)
 

@@ -3,11 +3,10 @@ use Rattle.std.proofs.Common.{◌≡◌, ℕ, zero, suc, ◌<◌, ◌≤◌, ◌
 use borrow.Author.Tests.{lt-leb}
 use Rattle.std.specs.List.{All, AllByRecursion, insert, remove}
 use Rattle.std.proofs.lemmas.List.Elements.{filter-append}
-use Rattle.ct_types.specs.declared.value.Key.{Key}
-use Rattle.ct_locks.specs.declared.held.Taken.{Taken}
+use Rattle.ct_locks.specs.declared.taken.Taken.{Taken}
 use Rattle.ct_locks.specs.Holders.{Lock, is_of}
-use Rattle.ct_locks.specs.Changes.{lock_on, with_taken, without_session}
-use Rattle.ct_locks.specs.Holdings.{Holding, lock_of, taken_on, all_locks, Rises}
+use Rattle.ct_locks.specs.Changes.{with_locks, without_session}
+use Rattle.ct_locks.specs.Holdings.{Holding, lock_of, with_more, all_locks, Rises}
 use Rattle.ct_locks.proofs.Kept.{all_weaken, all_at, block_all, block_none}
 
 abbrev pub IsAbove : ℕ → List Holding → Type 0
@@ -44,24 +43,20 @@ map_append : {X Y : Type 0} (f : X → Y) (xs ys : List X) → map f (xs ++ ys) 
 map_append f [] ys = refl
 map_append f (x ∷ xs) ys = ap (λ rest. f x ∷ rest) (map_append f xs ys)
 
-locks_on : (s table : ℕ) (keys : List Key) → map (lock_of s) (map (taken_on table) keys) ≡ map (lock_on s table) keys
-locks_on s table [] = refl
-locks_on s table (key ∷ keys) = ap (λ rest. lock_on s table key ∷ rest) (locks_on s table keys)
-
-module _ (s table : ℕ) (keys : List Key) where
+module _ (s : ℕ) (added : List Taken) where
   -- what a lower session holds stays in front
-  behind_lower : (t : ℕ) (xs : List Taken) (rest : List Lock) → t < s → with_taken (map (lock_of t) xs ++ rest) s table keys ≡ map (lock_of t) xs ++ with_taken rest s table keys
+  behind_lower : (t : ℕ) (xs : List Taken) (rest : List Lock) → t < s
+      → with_locks (map (lock_of t) xs ++ rest) s (map (lock_of s) added) ≡ map (lock_of t) xs ++ with_locks rest s (map (lock_of s) added)
   behind_lower t xs rest lt =
       let low : filter (λ lock. nat_le lock.session s) (map (lock_of t) xs ++ rest) ≡ map (lock_of t) xs ++ filter (λ lock. nat_le lock.session s) rest =
       filter-append (λ (lock : Lock). nat_le lock.session s) (map (lock_of t) xs) rest ∙ ap (λ a. a ++ filter (λ (lock : Lock). nat_le lock.session s) rest) (block_all (λ lock. nat_le lock.session s) t (λ x. le-leb t s (omega arith)) xs) in
       let high : filter (λ lock. nat_lt s lock.session) (map (lock_of t) xs ++ rest) ≡ filter (λ lock. nat_lt s lock.session) rest =
       filter-append (λ (lock : Lock). nat_lt s lock.session) (map (lock_of t) xs) rest ∙ ap (λ a. a ++ filter (λ (lock : Lock). nat_lt s lock.session) rest) (block_none (λ lock. nat_lt s lock.session) t (λ x. le-ltb s t (omega arith)) xs) in
-      ap₂ (λ a b. a ++ (map (lock_on s table) keys ++ b)) low high
-      ∙ append_assoc (map (lock_of t) xs) (filter (λ (lock : Lock). nat_le lock.session s) rest) (map (lock_on s table) keys ++ filter (λ (lock : Lock). nat_lt s lock.session) rest)
+      ap₂ (λ a b. a ++ (map (lock_of s) added ++ b)) low high
+      ∙ append_assoc (map (lock_of t) xs) (filter (λ (lock : Lock). nat_le lock.session s) rest) (map (lock_of s) added ++ filter (λ (lock : Lock). nat_lt s lock.session) rest)
 
   -- what it takes goes behind its own
-  to_own : (xs : List Taken) (hs : List Holding) → IsAbove s hs
-      → map (lock_of s) (xs ++ map (taken_on table) keys) ++ all_locks hs ≡ with_taken (map (lock_of s) xs ++ all_locks hs) s table keys
+  to_own : (xs : List Taken) (hs : List Holding) → IsAbove s hs → map (lock_of s) (xs ++ added) ++ all_locks hs ≡ with_locks (map (lock_of s) xs ++ all_locks hs) s (map (lock_of s) added)
   to_own xs hs above =
       let low : filter (λ lock. nat_le lock.session s) (map (lock_of s) xs ++ all_locks hs) ≡ map (lock_of s) xs =
       filter-append (λ (lock : Lock). nat_le lock.session s) (map (lock_of s) xs) (all_locks hs)
@@ -69,13 +64,13 @@ module _ (s table : ℕ) (keys : List Key) where
       let high : filter (λ lock. nat_lt s lock.session) (map (lock_of s) xs ++ all_locks hs) ≡ all_locks hs =
       filter-append (λ (lock : Lock). nat_lt s lock.session) (map (lock_of s) xs) (all_locks hs)
       ∙ ap₂ (λ a b. a ++ b) (block_none (λ lock. nat_lt s lock.session) s (λ x. le-ltb s s (omega arith)) xs) (highs_above s hs above) in
-      ap (λ a. a ++ all_locks hs) (map_append (lock_of s) xs (map (taken_on table) keys) ∙ ap (λ b. map (lock_of s) xs ++ b) (locks_on s table keys))
-      ∙ append_assoc (map (lock_of s) xs) (map (lock_on s table) keys) (all_locks hs)
-      ∙ sym (ap₂ (λ a b. a ++ (map (lock_on s table) keys ++ b)) low high)
+      ap (λ a. a ++ all_locks hs) (map_append (lock_of s) xs added)
+      ∙ append_assoc (map (lock_of s) xs) (map (lock_of s) added) (all_locks hs)
+      ∙ sym (ap₂ (λ a b. a ++ (map (lock_of s) added ++ b)) low high)
 
   -- a session that holds some already
   pub set_locks : (hs : List Holding) (i : ℕ) (d : Holding) → Rises hs → i < length hs → (get_or hs i d).session ≡ s
-      → all_locks (set hs i (record { session = (get_or hs i d).session; taken = (get_or hs i d).taken ++ map (taken_on table) keys })) ≡ with_taken (all_locks hs) s table keys
+      → all_locks (set hs i (with_more (get_or hs i d) added)) ≡ with_locks (all_locks hs) s (map (lock_of s) added)
   set_locks [] i d rises within at = absurd (omega arith)
   set_locks (h ∷ more) zero d rises within at =
       let above : IsAbove s more = rw at at rises.0 in
@@ -87,7 +82,7 @@ module _ (s table : ℕ) (keys : List Key) where
 
   -- one that holds none, at its place
   pub insert_locks : (hs : List Holding) (i : ℕ) → Rises hs → i ≤ length hs → All (λ (h : Holding). h.session < s) (take i hs) → ((d : Holding) → i < length hs → s < (get_or hs i d).session)
-      → all_locks (insert hs i (record { session = s; taken = map (taken_on table) keys })) ≡ with_taken (all_locks hs) s table keys
+      → all_locks (insert hs i (record { session = s; taken = added })) ≡ with_locks (all_locks hs) s (map (lock_of s) added)
   insert_locks [] zero rises within before at = to_own [] [] tt
   insert_locks [] (suc i) rises within before at = absurd (omega arith)
   insert_locks (h ∷ more) zero rises within before at =

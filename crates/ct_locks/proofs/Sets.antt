@@ -1,5 +1,5 @@
 -- What a set of keys, and a list of sets, has after a change.
-use Rattle.std.proofs.Common.{◌≡◌, ℕ, zero, suc, ◌+◌, ◌<◌, ◌≤◌, ◌^◌, ◌==◌, ◌&&◌, ◌||◌, Bool, true, false, is_some, List, [], ◌∷◌, ◌++◌, length, get_or, set, take, take_all, map, filter, find, option_map, refl, sym, ap, ◌∙◌, length-append, arith}
+use Rattle.std.proofs.Common.{◌≡◌, ℕ, zero, suc, ◌+◌, ◌<◌, ◌≤◌, ◌^◌, ◌==◌, ◌&&◌, ◌||◌, Bool, true, false, is_some, List, [], ◌∷◌, ◌++◌, length, get_or, set, take, take_all, filter, find, option_map, refl, sym, ap, ap₂, ◌∙◌, length-append, arith}
 use Rattle.std.specs.List.{list_any}
 use Rattle.std.specs.declared.cmp.Ordering.{Ordering}
 use Rattle.std.specs.declared.cmp.Ordering.TheVariants.{Less, Equal, Greater}
@@ -10,10 +10,9 @@ use Rattle.ct_types.specs.declared.value.Key.{Key}
 use Rattle.ct_types.proofs.Orders.{key_cmp_exact}
 use Rattle.ct_ptree.specs.declared.pair.Pair.{Pair}
 use Rattle.ct_ptree.specs.Pairs.{is_at, is_below, is_above, value_at, with_pair, set_pair}
-use Rattle.ct_locks.specs.declared.held.Taken.{Taken}
+use Rattle.ct_locks.specs.declared.taken.Taken.{Taken}
 use Rattle.ct_locks.specs.declared.key_sets.KeySet.{KeySet}
-use Rattle.ct_locks.specs.Holdings.{is_on, taken_on, is_among, has_key, IsKept}
-use Rattle.ct_locks.proofs.Kept.{length_map}
+use Rattle.ct_locks.specs.Holdings.{is_on, has_key, IsKept}
 
 or_true : (a : Bool) → (a || true) ≡ true
 or_true true = refl
@@ -30,10 +29,6 @@ or_assoc false b c = refl
 and_false : (a : Bool) → (a && false) ≡ false
 and_false true = refl
 and_false false = refl
-
-and_or : (a b c : Bool) → ((a && b) || (a && c)) ≡ (a && (b || c))
-and_or true b c = refl
-and_or false b c = refl
 
 or_spread : (a v r c : Bool) → ((a && (v || c)) || r) ≡ (((a && v) || r) || (a && c))
 or_spread false v r c = sym (or_false r)
@@ -88,29 +83,6 @@ module _ {V : Type 0} where
       ∙ any_with key pair xs
       ∙ ap (λ b. b || is_eq (key_cmp k key)) (sym (some_found (is_at key) xs))
 
--- ---- a set with more keys
-
--- a set that has the first of some keys, and then one more
-pub more_keys : (old made after : List (Pair (Unit {0}))) (keys : List Key) (i : ℕ) (item copied : Key) (v : Unit {0}) → i < length keys → item ≡ get_or keys i item → copied ≡ item
-    → after ≡ set_pair made copied v → ((key : Key) → is_some (value_at made key) ≡ (is_some (value_at old key) || is_among (take i keys) key))
-    → (key : Key) → is_some (value_at after key) ≡ (is_some (value_at old key) || is_among (take (i + 1) keys) key)
-more_keys old made after keys i item copied v within is same put before key =
-    let test : Key → Bool = λ other. is_eq (key_cmp other key) in
-    let more : list_any test (take (i + 1) keys) ≡ (list_any test (take i keys) || test copied) =
-    list_any_more test keys i item within ∙ ap (λ k. list_any test (take i keys) || test k) (sym is ∙ sym same) in
-    ap (λ pairs. is_some (value_at pairs key)) put ∙ has_with made copied v key
-    ∙ ap (λ b. b || test copied) (before key)
-    ∙ or_assoc (is_some (value_at old key)) (is_among (take i keys) key) (test copied)
-    ∙ ap (λ b. is_some (value_at old key) || b) (sym more)
-
--- a set that has none of them yet, and one that has all
-pub no_keys : (old made : List (Pair (Unit {0}))) → made ≡ old → (key : Key) → is_some (value_at made key) ≡ (is_some (value_at old key) || false)
-no_keys old made same key = ap (λ pairs. is_some (value_at pairs key)) same ∙ sym (or_false (is_some (value_at old key)))
-
-pub all_keys : (old made : List (Pair (Unit {0}))) (keys : List Key) (i : ℕ) → length keys ≤ i → ((key : Key) → is_some (value_at made key) ≡ (is_some (value_at old key) || is_among (take i keys) key))
-    → (key : Key) → is_some (value_at made key) ≡ (is_some (value_at old key) || is_among keys key)
-all_keys old made keys i over before key = before key ∙ ap (λ ks. is_some (value_at old key) || is_among ks key) (take_all i keys over)
-
 -- ---- a list of sets
 
 -- an empty set more
@@ -122,41 +94,60 @@ push_has sets made added none is table key =
     ∙ ap (λ b. list_any test sets || (b || false)) lacks ∙ or_false (list_any test sets)
 
 -- more keys in the set at a place
-set_has : (sets : List KeySet) (i : ℕ) (d : KeySet) (table : ℕ) (news : List (Pair (Unit {0}))) (keys : List Key) → i < length sets → (get_or sets i d).table ≡ table
-    → ((key : Key) → is_some (value_at news key) ≡ (is_some (value_at (get_or sets i d).keys key) || is_among keys key))
-    → (t : ℕ) (k : Key) → has_key (set sets i (record { table = (get_or sets i d).table; keys = news })) t k ≡ (has_key sets t k || ((table == t) && is_among keys k))
-set_has [] i d table news keys within at has t k = absurd (omega arith)
-set_has (x ∷ xs) zero d table news keys within at has t k =
+set_has : (sets : List KeySet) (i : ℕ) (d : KeySet) (table : ℕ) (news : List (Pair (Unit {0}))) (added : Key → Bool) → i < length sets → (get_or sets i d).table ≡ table
+    → ((key : Key) → is_some (value_at news key) ≡ (is_some (value_at (get_or sets i d).keys key) || added key))
+    → (t : ℕ) (k : Key) → has_key (set sets i (record { table = (get_or sets i d).table; keys = news })) t k ≡ (has_key sets t k || ((table == t) && added k))
+set_has [] i d table news added within at has t k = absurd (omega arith)
+set_has (x ∷ xs) zero d table news added within at has t k =
     ap (λ b. ((x.table == t) && b) || has_key xs t k) (has k)
-    ∙ or_spread (x.table == t) (is_some (value_at x.keys k)) (has_key xs t k) (is_among keys k)
-    ∙ ap (λ n. ((((x.table == t) && is_some (value_at x.keys k)) || has_key xs t k) || ((n == t) && is_among keys k))) at
-set_has (x ∷ xs) (suc i) d table news keys within at has t k =
-    ap (λ b. ((x.table == t) && is_some (value_at x.keys k)) || b) (set_has xs i d table news keys (omega arith) at has t k)
-    ∙ sym (or_assoc ((x.table == t) && is_some (value_at x.keys k)) (has_key xs t k) ((table == t) && is_among keys k))
+    ∙ or_spread (x.table == t) (is_some (value_at x.keys k)) (has_key xs t k) (added k)
+    ∙ ap (λ n. ((((x.table == t) && is_some (value_at x.keys k)) || has_key xs t k) || ((n == t) && added k))) at
+set_has (x ∷ xs) (suc i) d table news added within at has t k =
+    ap (λ b. ((x.table == t) && is_some (value_at x.keys k)) || b) (set_has xs i d table news added (omega arith) at has t k)
+    ∙ sym (or_assoc ((x.table == t) && is_some (value_at x.keys k)) (has_key xs t k) ((table == t) && added k))
 
-any_taken : (table : ℕ) (keys : List Key) (t : ℕ) (k : Key) → list_any (is_on t k) (map (taken_on table) keys) ≡ ((table == t) && is_among keys k)
-any_taken table [] t k = sym (and_false (table == t))
-any_taken table (key ∷ keys) t k =
-    ap (λ b. ((table == t) && is_eq (key_cmp key k)) || b) (any_taken table keys t k) ∙ and_or (table == t) (is_eq (key_cmp key k)) (is_among keys k)
+-- a key more in the set of its table
+pub key_put : (before sets made : List KeySet) (i : ℕ) (item : KeySet) (taken : Taken) (copied : Key) (news : List (Pair (Unit {0}))) (v : Unit {0})
+    → ((t : ℕ) (k : Key) → has_key sets t k ≡ has_key before t k) → i < length sets → item ≡ get_or sets i item → ((d : KeySet) → (get_or sets i d).table ≡ taken.table)
+    → copied ≡ taken.key → news ≡ set_pair item.keys copied v → made ≡ set sets i (record { table = item.table; keys = news })
+    → (t : ℕ) (k : Key) → has_key made t k ≡ (has_key before t k || is_on t k taken)
+key_put before sets made i item taken copied news v same within is at copy put whole t k =
+    let one : item.table ≡ (get_or sets i item).table = ap (λ (s : KeySet). s.table) is in
+    let there : made ≡ set sets i (record { table = (get_or sets i item).table; keys = news }) = whole ∙ ap (λ (n : ℕ). set sets i (record { table = n; keys = news })) one in
+    let has : (key : Key) → is_some (value_at news key) ≡ (is_some (value_at (get_or sets i item).keys key) || is_eq (key_cmp taken.key key)) =
+    λ key. ap (λ pairs. is_some (value_at pairs key)) put ∙ has_with item.keys copied v key
+    ∙ ap₂ (λ (s : KeySet) (c : Key). is_some (value_at s.keys key) || is_eq (key_cmp c key)) is copy in
+    ap (λ xs. has_key xs t k) there
+    ∙ set_has sets i item taken.table news (λ key. is_eq (key_cmp taken.key key)) within (at item) has t k
+    ∙ ap (λ b. b || is_on t k taken) (same t k)
 
-pub kept_same : (taken : List Taken) (before sets : List KeySet) → IsKept taken before → ((t : ℕ) (k : Key) → has_key sets t k ≡ has_key before t k) → IsKept taken sets
-kept_same taken before sets kept same = record { has = λ t k. same t k ∙ kept.has t k; few = kept.few }
+-- sets that have the first of some keys, and then one more
+pub more_has : (before made after : List KeySet) (added : List Taken) (i : ℕ) (item : Taken) → i < length added → item ≡ get_or added i item
+    → ((t : ℕ) (k : Key) → has_key after t k ≡ (has_key made t k || is_on t k item)) → ((t : ℕ) (k : Key) → has_key made t k ≡ (has_key before t k || list_any (is_on t k) (take i added)))
+    → (t : ℕ) (k : Key) → has_key after t k ≡ (has_key before t k || list_any (is_on t k) (take (i + 1) added))
+more_has before made after added i item within is put so_far t k =
+    let test : Taken → Bool = is_on t k in
+    let more : list_any test (take (i + 1) added) ≡ (list_any test (take i added) || test item) =
+    list_any_more test added i item within ∙ ap (λ x. list_any test (take i added) || test x) (sym is) in
+    put t k ∙ ap (λ b. b || test item) (so_far t k)
+    ∙ or_assoc (has_key before t k) (list_any test (take i added)) (test item)
+    ∙ ap (λ b. has_key before t k || b) (sym more)
 
-pub kept_more : (taken added all : List Taken) (before sets made : List KeySet) (i table : ℕ) (first item : KeySet) (keys : List Key) (news : List (Pair (Unit {0})))
-    → IsKept taken before → ((t : ℕ) (k : Key) → has_key sets t k ≡ has_key before t k) → i < length sets → first ≡ get_or sets i first → item ≡ get_or sets i item → ((d : KeySet) → (get_or sets i d).table ≡ table)
-    → ((key : Key) → is_some (value_at news key) ≡ (is_some (value_at first.keys key) || is_among keys key))
-    → added ≡ map (taken_on table) keys → all ≡ taken ++ added → made ≡ set sets i (record { table = item.table; keys = news }) → length taken + length keys < 2 ^ 32 → IsKept all made
-kept_more taken added all before sets made i table first item keys news kept same within is_first is at has new whole put few =
-    let spread : all ≡ taken ++ map (taken_on table) keys = whole ∙ ap (λ xs. taken ++ xs) new in
-    let one : item.table ≡ (get_or sets i first).table = ap (λ (s : KeySet). s.table) is ∙ at item ∙ sym (at first) in
-    let there : made ≡ set sets i (record { table = (get_or sets i first).table; keys = news }) = put ∙ ap (λ (n : ℕ). set sets i (record { table = n; keys = news })) one in
-    let has_first : (key : Key) → is_some (value_at news key) ≡ (is_some (value_at (get_or sets i first).keys key) || is_among keys key) =
-    λ key. has key ∙ ap (λ (s : KeySet). is_some (value_at s.keys key) || is_among keys key) is_first in
-    record {
-      has = λ t k.
-          ap (λ xs. has_key xs t k) there ∙ set_has sets i first table news keys within (at first) has_first t k
-          ∙ ap (λ b. b || ((table == t) && is_among keys k)) (same t k ∙ kept.has t k)
-          ∙ ap (λ b. list_any (is_on t k) taken || b) (sym (any_taken table keys t k))
-          ∙ sym (ap (list_any (is_on t k)) spread ∙ list_any-append (is_on t k) taken (map (taken_on table) keys));
-      few = rw (spread, length-append taken (map (taken_on table) keys), length_map (taken_on table) keys) few;
-    }
+-- sets that have none of them yet
+pub none_has : (before made : List KeySet) → made ≡ before → (t : ℕ) (k : Key) → has_key made t k ≡ (has_key before t k || false)
+none_has before made same t k = ap (λ xs. has_key xs t k) same ∙ sym (or_false (has_key before t k))
+
+-- and sets that have all
+pub all_has : (before made : List KeySet) (added : List Taken) (i : ℕ) → length added ≤ i → ((t : ℕ) (k : Key) → has_key made t k ≡ (has_key before t k || list_any (is_on t k) (take i added)))
+    → (t : ℕ) (k : Key) → has_key made t k ≡ (has_key before t k || list_any (is_on t k) added)
+all_has before made added i over so_far t k = so_far t k ∙ ap (λ xs. has_key before t k || list_any (is_on t k) xs) (take_all i added over)
+
+-- the sets of what was taken, with those of what was added
+pub kept_more : (taken added all : List Taken) (sets made : List KeySet) → IsKept taken sets → ((t : ℕ) (k : Key) → has_key made t k ≡ (has_key sets t k || list_any (is_on t k) added))
+    → all ≡ taken ++ added → length taken + length added < 2 ^ 32 → IsKept all made
+kept_more taken added all sets made kept more whole few = record {
+  has = λ t k.
+      more t k ∙ ap (λ b. b || list_any (is_on t k) added) (kept.has t k)
+      ∙ sym (ap (list_any (is_on t k)) whole ∙ list_any-append (is_on t k) taken added);
+  few = rw (whole, length-append taken added) few;
+}

@@ -3,7 +3,7 @@ use Rattle.std.proofs.Common.{◌≡◌, ◌≢◌, ℕ, zero, suc, ◌<◌, ◌
 use Rattle.std.specs.Prelude.{slice_get, IsSomeAnd}
 use Rattle.std.specs.List.{list_any}
 use Rattle.ct_types.specs.declared.value.Key.{Key}
-use Rattle.ct_locks.specs.declared.held.Taken.{Taken}
+use Rattle.ct_locks.specs.declared.taken.Taken.{Taken}
 use Rattle.ct_locks.specs.Holders.{IsFree, IsLeastHolder, IsFreeTable, IsHolder}
 use Rattle.ct_locks.specs.Holdings.{Holding, all_locks, Rises, is_on, is_of_table, has_table, blocks}
 use Rattle.ct_locks.proofs.Kept.{taken_by, IsFound, none_by, found_at, holds_by, place_by}

@@ -4,9 +4,10 @@ use Rattle.std.specs.Prelude.{◌≡◌, ℕ, ◌<◌, ◌^◌, ◌==◌, ◌&&�
 use Rattle.std.specs.List.{AllByRecursion, list_any}
 use Rattle.std.specs.Ordering.{is_eq}
 use Rattle.ct_types.specs.Order.{key_cmp}
+use Rattle.ct_types.specs.declared.entry.Write.{Write}
 use Rattle.ct_types.specs.declared.value.Key.{Key}
 use Rattle.ct_ptree.specs.Pairs.{value_at}
-use Rattle.ct_locks.specs.declared.held.Taken.{Taken}
+use Rattle.ct_locks.specs.declared.taken.Taken.{Taken}
 use Rattle.ct_locks.specs.declared.key_sets.KeySet.{KeySet}
 use Rattle.ct_locks.specs.Holders.{Lock}
 
@@ -21,9 +22,13 @@ lock_of session taken = record { session = session; table = taken.table; key = t
 abbrev pub taken_on : ℕ → Key → Taken
 taken_on table key = record { table = table; key = key }
 
--- with keys of a table behind what it has
-abbrev pub with_more : Holding → ℕ → List Key → Holding
-with_more holding table keys = record { session = holding.session; taken = holding.taken ++ map (taken_on table) keys }
+-- what a write takes
+abbrev pub taken_of : Write → Taken
+taken_of write = taken_on write.table write.key
+
+-- with more behind what it has
+abbrev pub with_more : Holding → List Taken → Holding
+with_more holding added = record { session = holding.session; taken = holding.taken ++ added }
 
 -- all locks, session by session
 abbrev pub all_locks : List Holding → List Lock
@@ -48,10 +53,6 @@ has_table table taken = is_some (position (is_of_table table) taken)
 -- another session than this, of which a test of what it holds is true
 abbrev pub blocks : ℕ → (List Taken → Bool) → Holding → Bool
 blocks session test holding = not (holding.session == session) && test holding.taken
-
--- the key is among these
-abbrev pub is_among : List Key → Key → Bool
-is_among keys key = list_any (λ other. is_eq (key_cmp other key)) keys
 
 -- one of the sets is of the table, and has the key
 abbrev pub has_key : List KeySet → ℕ → Key → Bool

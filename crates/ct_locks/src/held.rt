@@ -1,18 +1,13 @@
-ghost use Rattle.std.specs.Prelude.{◌≡◌, ◌<◌, ◌^◌, ◌==◌, not, true, false, Some, ◌++◌, [], length, map, position, IfSome, IfNone, IfOk, OnOk, OnErr};
+ghost use Rattle.std.specs.Prelude.{◌≡◌, ◌<◌, ◌^◌, ◌==◌, not, true, false, Some, ◌++◌, [], length, position, slice_get, IfSome, IfNone, OnOk, OnErr};
 ghost use Rattle.std.specs.List.{list_any};
-ghost use Rattle.ct_locks.specs.Holdings.{is_on, is_of_table, has_table, blocks, taken_on};
+ghost use Rattle.std.specs.Option.{option_copied, option_map};
+ghost use Rattle.ct_locks.specs.Holdings.{is_on, is_of_table, has_table, blocks};
 
-use crate::key_sets::{KeySet, has, place_of, with_keys};
-use ct_types::{Copies, Key, Memory};
+use crate::key_sets::{KeySet, has, with_keys};
+use crate::taken::Taken;
+use ct_types::{Key, Memory};
 use std::alloc::Global;
 use std::marker::Model;
-
-/// A key of a table that a session took.
-#[derive(Drop)]
-pub(crate) struct Taken {
-    pub(crate) table: u32,
-    pub(crate) key: Key,
-}
 
 /// What one session holds: in the order in which it took it, and as a set of keys for each table, so that a look-up costs a
 /// logarithm.
@@ -32,20 +27,6 @@ impl Model for Held {
     ghost view = { λ it. record { session = it.session; taken = it.taken.items } };
 
     ghost invariant = { λ it. IsKept it.taken.items it.sets.items };
-}
-
-/// Copies keys of a table.
-fn copy_keys(alloc: Global, table: u32, keys: &[Key]) -> Result<Vec<Taken>, Memory>
-    ensures { IfOk result (λ made. made.items ≡ map (taken_on table) keys.now) }
-{
-    let mut made = Vec::with_capacity(alloc, keys.len())?;
-    for key in keys {
-        made.push(Taken {
-            table,
-            key: key.copy(alloc)?,
-        })?;
-    }
-    Ok(made)
 }
 
 /// The place of the first key of a table.
@@ -96,21 +77,28 @@ impl Held {
         }
     }
 
-    /// Takes keys of a table behind those that it has. Memory leaves it as it was.
-    pub(crate) fn take(&mut self, table: u32, keys: &[Key]) -> Result<(), Memory>
-        ensures ok { OnOk result (self.new ≡ record self.old { taken = self.old.taken ++ map (taken_on table) keys.now }) }
+    /// The key that it took at a place, counted from 0.
+    pub(crate) fn key_at(&self, place: u32) -> Option<&Key>
+        ensures { option_copied result ≡ option_map (λ taken. taken.key) (slice_get self.now.taken place) }
+    {
+        match self.taken.get(place as usize) {
+            None => None,
+            Some(taken) => Some(&taken.key),
+        }
+    }
+
+    /// Takes more behind what it has. Memory leaves it as it was.
+    pub(crate) fn take(&mut self, mut added: Vec<Taken>) -> Result<(), Memory>
+        ensures ok { OnOk result (self.new ≡ record self.old { taken = self.old.taken ++ added.items }) }
         ensures few { OnOk result (length self.new.taken < 2 ^ 32) }
         ensures err { OnErr result (self.new ≡ self.old) }
     {
-        if u32::MAX as usize - self.taken.len() < keys.len() {
+        if u32::MAX as usize - self.taken.len() < added.len() {
             return Err(Memory);
         }
-        let mut added = copy_keys(self.alloc, table, keys)?;
-        let place = place_of(self.alloc, &mut self.sets, table)?;
-        let set = with_keys(self.alloc, &self.sets[place].keys, keys)?;
+        let sets = with_keys(self.alloc, self.sets.as_slice(), added.as_slice())?;
         self.taken.append(&mut added)?;
-        let slot = &mut self.sets[place];
-        slot.keys = set;
+        self.sets = sets;
         Ok(())
     }
 }

@@ -1,8 +1,9 @@
-ghost use Rattle.std.specs.Prelude.{◌≡◌, ℕ, ◌<◌, ◌||◌, length, is_some, slice_index_or, IfOk};
+ghost use Rattle.std.specs.Prelude.{◌≡◌, ℕ, ◌<◌, ◌||◌, length, slice_index_or, IfOk, OnOk};
+ghost use Rattle.std.specs.List.{list_any};
 ghost use Rattle.ct_types.specs.declared.value.Key.{Key};
-ghost use Rattle.ct_ptree.specs.Pairs.{value_at};
-ghost use Rattle.ct_locks.specs.Holdings.{is_among, has_key};
+ghost use Rattle.ct_locks.specs.Holdings.{has_key, is_on};
 
+use crate::taken::Taken;
 use ct_ptree::Tree;
 use ct_types::{Copies, Key, Memory};
 use std::alloc::Global;
@@ -23,7 +24,7 @@ pub(crate) fn has(sets: &[KeySet], table: u32, key: &Key) -> bool
 }
 
 /// The set of a table, as its place. One that is not there is made, without keys.
-pub(crate) fn place_of(alloc: Global, sets: &mut Vec<KeySet>, table: u32) -> Result<usize, Memory>
+fn place_of(alloc: Global, sets: &mut Vec<KeySet>, table: u32) -> Result<usize, Memory>
     ensures within { IfOk result (λ place. place < length sets.new.items) }
     ensures at { IfOk result (λ place. (d : KeySet) → (slice_index_or sets.new.items place d).table ≡ table) }
     ensures same { (other : ℕ) (key : Key) → has_key sets.new.items other key ≡ has_key sets.old.items other key }
@@ -38,13 +39,41 @@ pub(crate) fn place_of(alloc: Global, sets: &mut Vec<KeySet>, table: u32) -> Res
     Ok(sets.len() - 1)
 }
 
-/// A set with these keys more.
-pub(crate) fn with_keys(alloc: Global, old: &Tree<()>, keys: &[Key]) -> Result<Tree<()>, Memory>
-    ensures { IfOk result (λ made. (key : Key) → is_some (value_at made key) ≡ (is_some (value_at old.now key) || is_among keys.now key)) }
+/// Puts a key into the set of its table.
+fn put_key(alloc: Global, sets: &mut Vec<KeySet>, taken: &Taken) -> Result<(), Memory>
+    ensures { OnOk result ((table : ℕ) (key : Key) → has_key sets.new.items table key ≡ (has_key sets.old.items table key || is_on table key taken.now)) }
 {
-    let mut made = old.share()?;
-    for key in keys {
-        made.put(key.copy(alloc)?, ())?;
+    let key = taken.key.copy(alloc)?;
+    let place = place_of(alloc, sets, taken.table)?;
+    let set = &mut sets[place];
+    set.keys.put(key, ())
+}
+
+/// A list of shares of all sets, with no copy of a key.
+fn shares(alloc: Global, sets: &[KeySet]) -> Result<Vec<KeySet>, Memory>
+    ensures { IfOk result (λ made. made.items ≡ sets.now) }
+{
+    let mut made = Vec::with_capacity(alloc, sets.len())?;
+    for set in sets {
+        made.push(KeySet {
+            table: set.table,
+            keys: set.keys.share()?,
+        })?;
+    }
+    Ok(made)
+}
+
+/// The sets with these keys more, each in that of its table.
+pub(crate) fn with_keys(
+    alloc: Global,
+    sets: &[KeySet],
+    added: &[Taken],
+) -> Result<Vec<KeySet>, Memory>
+    ensures { IfOk result (λ made. (table : ℕ) (key : Key) → has_key made.items table key ≡ (has_key sets.now table key || list_any (is_on table key) added.now)) }
+{
+    let mut made = shares(alloc, sets)?;
+    for taken in added {
+        put_key(alloc, &mut made, taken)?;
     }
     Ok(made)
 }

@@ -6,6 +6,7 @@ mod held;
 mod key_sets;
 mod locks;
 mod sessions;
+mod taken;
 
 pub use answers::{Blocked, Holder};
 pub use locks::Locks;

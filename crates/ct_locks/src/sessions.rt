@@ -1,16 +1,18 @@
-ghost use Rattle.std.specs.Prelude.{◌≡◌, true, ◌<◌, ◌≤◌, ◌+◌, ◌^◌, ◌==◌, length, slice_index_or, take, set, map, MatchOption, IfErr, OnOk, OnErr};
+ghost use Rattle.std.specs.Prelude.{◌≡◌, true, ◌<◌, ◌≤◌, ◌+◌, ◌^◌, ◌==◌, length, slice_get, slice_index_or, take, set, map, MatchOption, IfErr, OnOk, OnErr};
 ghost use Rattle.std.specs.List.{All, insert};
+ghost use Rattle.std.specs.Option.{option_copied, option_map};
 ghost use Rattle.ct_locks.specs.Holders.{locks_of, IsFree, IsLeastHolder, IsBlocked, IsFreeTable, IsHolder};
-ghost use Rattle.ct_locks.specs.Changes.{with_taken, without_session};
-ghost use Rattle.ct_locks.specs.Holdings.{Holding, all_locks, taken_on, with_more, Rises};
+ghost use Rattle.ct_locks.specs.Changes.{with_locks, without_session};
+ghost use Rattle.ct_locks.specs.Holdings.{Holding, all_locks, lock_of, with_more, Rises};
 
 use crate::answers::{Blocked, Holder};
 use crate::held::Held;
+use crate::taken::Taken;
 use ct_types::{Key, Memory};
 use std::alloc::Global;
 
 /// The least other session that holds a key.
-fn least_holder(sessions: &[Held], session: u8, table: u32, key: &Key) -> Option<u8>
+pub(crate) fn least_holder(sessions: &[Held], session: u8, table: u32, key: &Key) -> Option<u8>
     requires { Rises sessions.now }
     ensures { MatchOption result (IsFree (all_locks sessions.now) session table key.now) (λ holder. IsLeastHolder (all_locks sessions.now) session table key.now holder) }
 {
@@ -84,57 +86,67 @@ fn is_at(sessions: &[Held], place: usize, session: u8) -> bool
     place < sessions.len() && sessions[place].session() == session
 }
 
-/// Takes keys of a table for the session at a place. Memory leaves all as it was.
-fn take_more(sessions: &mut Vec<Held>, place: usize, table: u32, keys: &[Key]) -> Result<(), Memory>
+/// The key that a session took at a place, counted from 0.
+pub(crate) fn key_at(sessions: &[Held], session: u8, place: u32) -> Option<&Key>
+    requires { Rises sessions.now }
+    ensures { option_copied result ≡ option_map (λ lock. lock.key) (slice_get (locks_of (all_locks sessions.now) session) place) }
+{
+    let at = place_of(sessions, session);
+    if is_at(sessions, at, session) {
+        return sessions[at].key_at(place);
+    }
+    None
+}
+
+/// Takes keys for the session at a place. Memory leaves all as it was.
+fn take_more(sessions: &mut Vec<Held>, place: usize, added: Vec<Taken>) -> Result<(), Memory>
     requires { place < length sessions.old.items }
-    ensures ok { OnOk result ((d : Holding) → sessions.new.items ≡ set sessions.old.items place (with_more (slice_index_or sessions.old.items place d) table keys.now)) }
-    ensures few { OnOk result ((d : Holding) → length (slice_index_or sessions.old.items place d).taken + length keys.now < 2 ^ 32) }
+    ensures ok { OnOk result ((d : Holding) → sessions.new.items ≡ set sessions.old.items place (with_more (slice_index_or sessions.old.items place d) added.items)) }
+    ensures few { OnOk result ((d : Holding) → length (slice_index_or sessions.old.items place d).taken + length added.items < 2 ^ 32) }
     ensures err { OnErr result (sessions.new.items ≡ sessions.old.items) }
 {
     let held = &mut sessions[place];
-    held.take(table, keys)
+    held.take(added)
 }
 
-/// Takes keys of a table for a session that holds none, and belongs at a place. Memory leaves all as it was.
+/// Takes keys for a session that holds none, and belongs at a place. Memory leaves all as it was.
 fn take_first(
     alloc: Global,
     sessions: &mut Vec<Held>,
     place: usize,
     session: u8,
-    table: u32,
-    keys: &[Key],
+    added: Vec<Taken>,
 ) -> Result<(), Memory>
     requires { place ≤ length sessions.old.items }
-    ensures ok { OnOk result (sessions.new.items ≡ insert sessions.old.items place (record { session = session; taken = map (taken_on table) keys.now })) }
-    ensures few { OnOk result (length keys.now < 2 ^ 32) }
+    ensures ok { OnOk result (sessions.new.items ≡ insert sessions.old.items place (record { session = session; taken = added.items })) }
+    ensures few { OnOk result (length added.items < 2 ^ 32) }
     ensures err { OnErr result (sessions.new.items ≡ sessions.old.items) }
 {
     let mut held = Held::new(alloc, session);
-    held.take(table, keys)?;
+    held.take(added)?;
     sessions.insert(place, held)?;
     Ok(())
 }
 
-/// Takes keys of a table for a session. Memory leaves all as it was.
+/// Takes keys for a session. Memory leaves all as it was.
 pub(crate) fn take_keys(
     alloc: Global,
     sessions: &mut Vec<Held>,
     session: u8,
-    table: u32,
-    keys: &[Key],
+    added: Vec<Taken>,
 ) -> Result<(), Memory>
     requires { Rises sessions.old.items }
     ensures rises { Rises sessions.new.items }
-    ensures ok { OnOk result (all_locks sessions.new.items ≡ with_taken (all_locks sessions.old.items) session table keys.now) }
+    ensures ok { OnOk result (all_locks sessions.new.items ≡ with_locks (all_locks sessions.old.items) session (map (lock_of session) added.items)) }
     ensures few { OnOk result (length (locks_of (all_locks sessions.new.items) session) < 2 ^ 32) }
     ensures err { OnErr result (all_locks sessions.new.items ≡ all_locks sessions.old.items) }
 {
     let place = place_of(sessions.as_slice(), session);
     if is_at(sessions.as_slice(), place, session) {
-        take_more(sessions, place, table, keys)?;
+        take_more(sessions, place, added)?;
         return Ok(());
     }
-    take_first(alloc, sessions, place, session, table, keys)?;
+    take_first(alloc, sessions, place, session, added)?;
     Ok(())
 }
 

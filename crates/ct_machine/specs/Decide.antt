@@ -167,7 +167,7 @@ module _ (m : Machine) (s : ℕ) where
   altered id table act =
       unless decision.Refuses (option_and_then (λ t. blocked_table m.sessions s t.schema.name id) table) (decision.Commits act Done)
 
-  -- what a bound statement comes to; BEGIN alone is not built, so that no transaction is ever open
+  -- what a bound statement comes to
   unfoldable pub decide_bound : Stmt → Bound → Decision
   decide_bound it bound.AcceptOption = decision.Answers Done
   decide_bound it (bound.AlterDatabase keep) = decision.Commits (Database keep) Done
@@ -177,7 +177,7 @@ module _ (m : Machine) (s : ℕ) where
   decide_bound it (bound.TruncateTable table) = altered table (table_of seen.db.tables table) (Truncate table)
   decide_bound it (bound.Write write) = written write (table_of seen.db.tables write.table)
   decide_bound it (bound.Select query) = answered (selected seen query)
-  decide_bound it bound.Begin = decision.Refuses NotBuilt
+  decide_bound it bound.Begin = decision.Begins
   decide_bound it bound.Commit = commits session.pending
   decide_bound it bound.Rollback = decision.Ends
   decide_bound it (bound.SetIsolation level) = decision.Isolates (is_snapshot level)

@@ -139,7 +139,8 @@ schema_found (table ∷ tables) id = pick (eqb table.schema.id id) _ (table_of t
     pick true rest more e = refl
     pick false rest more e = e
 
-table_valid : (db : Db) (id : ℕ) (table : Table) → IsValid db → table_of db.tables id ≡ Some table → IsTableValid db.version db.keep table
+-- a table that is found is valid
+pub table_valid : (db : Db) (id : ℕ) (table : Table) → IsValid db → table_of db.tables id ≡ Some table → IsTableValid db.version db.keep table
 table_valid db id table valid is =
     let found : IsSomeAnd (table_of db.tables id) (λ t. Unit {0}) = rw is tt in
     subst (λ o. IsSomeAnd o (IsTableValid db.version db.keep)) is

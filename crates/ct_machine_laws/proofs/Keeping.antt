@@ -39,7 +39,8 @@ use Rattle.ct_machine.specs.Step.{step}
 use Rattle.ct_machine_laws.specs.Laws.{DeclaresCommitWell, IsAccepted, SetsCommitWell}
 use Rattle.ct_machine_laws.specs.Sound.{CommitsWell, IsSound, IsWell}
 use Rattle.ct_machine.specs.Fits.{AnswerFits, RowsFit}
-use Rattle.ct_machine_laws.proofs.Committing.{commands_commit_well, creates_commit_well, decided_well, disables_commit_well, enables_commit_well, seen_valid, selects_commit_well, settings_commit_well, transactions_commit_well, truncates_commit_well, wrong_commits_well}
+use Rattle.ct_machine_laws.proofs.Committing.{commands_commit_well, creates_commit_well, decided_well, disables_commit_well, enables_commit_well, selects_commit_well, settings_commit_well, transactions_commit_well, truncates_commit_well, wrong_commits_well}
+use Rattle.ct_machine_laws.proofs.Seeing.{seen_is_valid}
 use Rattle.ct_machine_laws.proofs.Soundness.{stays_sound}
 use Rattle.ct_machine_laws.proofs.Writing.{writes_commit_well}
 use Rattle.ct_machine_laws.proofs.Accepted.{declares_suit_their_variable, sets_suit_their_variable, writes_suit_their_table}
@@ -57,18 +58,18 @@ fitting_came name kind (Ok x) v e = by (fit (record { name = name; kind = kind; 
     by (Ok unit) e = e
     by (Err refusal) e = absurd cc
 
-sets_well : (m : Machine) (session : SessionState) (name : List ℕ) (answer : Answer Value)
-    → ((v : Value) → answer ≡ Ok v → AreOfTheirTypes (with_value session.variables name v)) → IsWell m session (sets name answer)
-sets_well m session name (Ok v) suits = suits v refl
-sets_well m session name (Err refusal) suits = tt
+sets_well : (m : Machine) (s : ℕ) (session : SessionState) (name : List ℕ) (answer : Answer Value)
+    → ((v : Value) → answer ≡ Ok v → AreOfTheirTypes (with_value session.variables name v)) → IsWell m s session (sets name answer)
+sets_well m s session name (Ok v) suits = suits v refl
+sets_well m s session name (Err refusal) suits = tt
 
 set_well : (m : Machine) (s : ℕ) (name : List ℕ) (found : Option Variable) (expr : BoundExpr)
     → ((v : Value) → value (on (world_of (seen m s)) no_row) expr ≡ Ok v → AreOfTheirTypes (with_value (m.sessions s).variables name v))
-    → IsWell m (m.sessions s) (set_variable (seen m s) name found expr)
+    → IsWell m s (m.sessions s) (set_variable (seen m s) name found expr)
 set_well m s name None expr suits = tt
 set_well m s name (Some variable) expr suits =
     let answer = value (on (world_of (seen m s)) no_row) expr in
-    sets_well m (m.sessions s) name (fitting name variable.kind answer) (λ v e. suits v (fitting_came name variable.kind answer v e))
+    sets_well m s (m.sessions s) name (fitting name variable.kind answer) (λ v e. suits v (fitting_came name variable.kind answer v e))
 
 -- what a SET is bound to
 abbrev IsSet : Bound → Type 0
@@ -77,10 +78,10 @@ IsSet b = ⊥
 
 set_bound_well : (m : Machine) (s : ℕ) (name : List ℕ) (expr : Expr) (b : Bound) → IsSound m → IsSet b
     → binding (catalogue (seen m s).db) (seen m s).db.keep (seen m s).variables (stmt.SetVariable name expr) ≡ Ok b
-    → IsWell m (m.sessions s) (decide_bound m s (stmt.SetVariable name expr) b)
+    → IsWell m s (m.sessions s) (decide_bound m s (stmt.SetVariable name expr) b)
 unfolding decide_bound
 set_bound_well m s name expr (bound.SetVariable place e) sound is came =
-    set_well m s name _ e (λ v gives. sets_suit_their_variable (seen m s) (seen m s).db.keep name expr place e v (seen_valid m s sound) (sound.sessions s).variables came gives)
+    set_well m s name _ e (λ v gives. sets_suit_their_variable (seen m s) (seen m s).db.keep name expr place e v (seen_is_valid m s sound) (sound.sessions.each s).variables came gives)
 set_bound_well m s name expr b sound is came = absurd is
 
 set_is : (m : Machine) (s : ℕ) (name : List ℕ) (expr : Expr) → Kept IsSet (bind_set (catalogue (seen m s).db) (seen m s).variables name expr)
@@ -92,12 +93,12 @@ set_is m s name expr =
 pub sets_commit_well : SetsCommitWell
 unfolding binding
 sets_commit_well m s name expr sound =
-    decided_well m s (stmt.SetVariable name expr) (λ b came. set_bound_well m s name expr b sound ((set_is m s name expr).holds b came) came)
+    decided_well m s (stmt.SetVariable name expr) (λ b passed may came. set_bound_well m s name expr b sound ((set_is m s name expr).holds b came) came)
 
-declares_well : (m : Machine) (session : SessionState) (name : List ℕ) (kind : ColType) (answer : Answer Value)
-    → ((v : Value) → answer ≡ Ok v → IsOfKind (kind_of_type kind) v) → IsWell m session (declares name kind answer)
-declares_well m session name kind (Ok v) suits = suits v refl
-declares_well m session name kind (Err refusal) suits = tt
+declares_well : (m : Machine) (s : ℕ) (session : SessionState) (name : List ℕ) (kind : ColType) (answer : Answer Value)
+    → ((v : Value) → answer ≡ Ok v → IsOfKind (kind_of_type kind) v) → IsWell m s session (declares name kind answer)
+declares_well m s session name kind (Ok v) suits = suits v refl
+declares_well m s session name kind (Err refusal) suits = tt
 
 null_of : (kind : ColType) → IsOfKind (kind_of_type kind) Null
 null_of type.Int = tt
@@ -111,15 +112,15 @@ IsDeclared b = ⊥
 
 declare_bound_well : (m : Machine) (s : ℕ) (name : List ℕ) (written : TypeName) (given : Option Expr) (b : Bound) → IsSound m → IsDeclared b
     → binding (catalogue (seen m s).db) (seen m s).db.keep (seen m s).variables (stmt.Declare name written given) ≡ Ok b
-    → IsWell m (m.sessions s) (decide_bound m s (stmt.Declare name written given) b)
+    → IsWell m s (m.sessions s) (decide_bound m s (stmt.Declare name written given) b)
 unfolding decide_bound
 declare_bound_well m s name written given (bound.Declare variable kind None) sound is came =
-    declares_well m (m.sessions s) variable kind (fitting variable kind (Ok Null))
+    declares_well m s (m.sessions s) variable kind (fitting variable kind (Ok Null))
     (λ v e. let same : ◌≡◌ {A = Answer Value} (Ok Null) (Ok v) = fitting_came variable kind (Ok Null) v e in let null : Null ≡ v = cc in subst (IsOfKind (kind_of_type kind)) null (null_of kind))
 declare_bound_well m s name written given (bound.Declare variable kind (Some e)) sound is came =
     let answer = value (on (world_of (seen m s)) no_row) e in
-    declares_well m (m.sessions s) variable kind (fitting variable kind answer)
-    (λ v gives. declares_suit_their_variable (seen m s) (seen m s).db.keep name variable written given kind e v (seen_valid m s sound) (sound.sessions s).variables came (fitting_came variable kind answer v gives))
+    declares_well m s (m.sessions s) variable kind (fitting variable kind answer)
+    (λ v gives. declares_suit_their_variable (seen m s) (seen m s).db.keep name variable written given kind e v (seen_is_valid m s sound) (sound.sessions.each s).variables came (fitting_came variable kind answer v gives))
 declare_bound_well m s name written given b sound is came = absurd is
 
 declare_is : (m : Machine) (s : ℕ) (name : List ℕ) (written : TypeName) (given : Option Expr) → Kept IsDeclared (bind_declare (catalogue (seen m s).db) (seen m s).variables name written given)
@@ -132,7 +133,7 @@ declare_is m s name written given =
 pub declares_commit_well : DeclaresCommitWell
 unfolding binding
 declares_commit_well m s name written given sound =
-    decided_well m s (stmt.Declare name written given) (λ b came. declare_bound_well m s name written given b sound ((declare_is m s name written given).holds b came) came)
+    decided_well m s (stmt.Declare name written given) (λ b passed may came. declare_bound_well m s name written given b sound ((declare_is m s name written given).holds b came) came)
 
 -- ---- the whole
 
@@ -146,7 +147,7 @@ write_accepted : (m : Machine) (s : ℕ) (context : Option Expr) (write : WriteS
     → binding (catalogue (seen m s).db) (seen m s).db.keep (seen m s).variables (stmt.Write context write) ≡ Ok (bound.Write b)
     → table_of (seen m s).db.tables b.table ≡ Some table → IsAccepted (seen m s) b table
 write_accepted m s context write sound some fits b table was is =
-    let promised = writes_suit_their_table (seen m s) (seen m s).db.keep context write b table (seen_valid m s sound) (sound.sessions s).variables some was is in
+    let promised = writes_suit_their_table (seen m s) (seen m s).db.keep context write b table (seen_is_valid m s sound) (sound.sessions.each s).variables some was is in
     record { columns = promised.0; kinds = promised.1; fit = fits b was table is }
 
 -- each form of statement commits well
@@ -172,8 +173,8 @@ commits_well m s (Sql statement) sound spelled fits = form_commits_well m s stat
 commits_well m s command sound spelled fits = commands_commit_well m s command tt
 
 pub keeps_sound : KeepsSound
-keeps_sound m s what reply sound spelled fits = by (is_memory reply) refl
+keeps_sound m s what reply sound within spelled fits = by (is_memory reply) refl
   where
     by : (wanting : Bool) → is_memory reply ≡ wanting → IsSound (after m s what reply)
     by true wanting = subst (λ b. IsSound (if b then m else (step m s what).0)) (sym wanting) sound
-    by false told = stays_sound m s what reply sound (commits_well m s what sound spelled (fits told))
+    by false told = stays_sound m s what reply sound within (commits_well m s what sound spelled (fits told))

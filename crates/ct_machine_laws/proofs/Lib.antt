@@ -1,4 +1,7 @@
+pub mod Sparing
+pub mod Holders
 pub mod Soundness
+pub mod Seeing
 pub mod Committing
 pub mod Writing
 pub mod Columns

@@ -1,5 +1,5 @@
 -- The law that sound machines stay sound. This project's own.
-use Rattle.std.specs.Prelude.{◌≡◌, ℕ, false}
+use Rattle.std.specs.Prelude.{◌≡◌, ◌<◌, ℕ, false}
 use Rattle.ct_types.specs.declared.reply.Reply.{Reply}
 use Rattle.ct_types.specs.declared.command.Command.{Command}
 use Rattle.ct_types.specs.declared.command.Command.TheVariants.{Sql}
@@ -19,4 +19,4 @@ IsSpelledCommand other = Unit {0}
 -- statement writes fit their table; want of memory writes none
 abbrev pub KeepsSound : Type 0
 KeepsSound = (m : Machine) (s : ℕ) (what : Command) (reply : Reply)
-    → IsSound m → IsSpelledCommand what → (is_memory reply ≡ false → RowsFit (seen_by m (m.sessions s)) what) → IsSound (after m s what reply)
+    → IsSound m → s < 256 → IsSpelledCommand what → (is_memory reply ≡ false → RowsFit (seen_by m (m.sessions s)) what) → IsSound (after m s what reply)

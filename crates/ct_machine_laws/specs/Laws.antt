@@ -1,8 +1,9 @@
 -- What follows of steps and plays, of statements whose acts apply; and which statements these are. This project's own.
-use Rattle.std.specs.Prelude.{◌≡◌, ℕ, Bool, List, Option, Some, Ok}
+use Rattle.std.specs.Prelude.{◌≡◌, ◌<◌, ℕ, Bool, true, List, length, Option, Some, Ok}
 use Rattle.ct_types.specs.declared.bound.Bound.TheVariants.{Write as Writes}
 use Rattle.ct_types.specs.declared.bound.BoundWrite.{BoundWrite}
 use Rattle.ct_types.specs.declared.entry.Act.{Act}
+use Rattle.ct_types.specs.declared.entry.Act.TheVariants.{Commit}
 use Rattle.ct_types.specs.declared.expr.Expr.{Expr}
 use Rattle.ct_types.specs.declared.expr.ObjectName.{ObjectName}
 use Rattle.ct_types.specs.declared.refusal.Refusal.{Refusal}
@@ -14,9 +15,10 @@ use Rattle.ct_types.specs.declared.stmt.Stmt.{Stmt}
 use Rattle.ct_types.specs.declared.stmt.Stmt.TheVariants as stmt
 use Rattle.ct_types.specs.declared.stmt.TypeName.{TypeName}
 use Rattle.ct_types.specs.declared.stmt.WriteStmt.{WriteStmt}
+use Rattle.ct_types.specs.declared.value.Key.{Key}
 use Rattle.ct_model.specs.declared.db.Db.{Db}
 use Rattle.ct_model.specs.declared.db.Table.{Table}
-use Rattle.ct_model.specs.Applies.{Applies, ApplyInTurn}
+use Rattle.ct_model.specs.Applies.{ActApplies, Applies, ApplyInTurn}
 use Rattle.ct_model.specs.Apply.{no_db}
 use Rattle.ct_model.specs.Tables.{table_of}
 use Rattle.ct_model.specs.Valid.{IsValid}
@@ -27,10 +29,11 @@ use Rattle.ct_types.specs.declared.command.Command.{Command}
 use Rattle.ct_types.specs.declared.command.Command.TheVariants.{Sql, Wrong}
 use Rattle.ct_types.specs.declared.command.Journaled.{Journaled}
 use Rattle.ct_machine.specs.declared.decision.Decision.TheVariants.{Commits}
+use Rattle.ct_machine.specs.Holding.{holds_key}
 use Rattle.ct_machine.specs.Machine.{Machine, db_of, opening}
 use Rattle.ct_machine.specs.Play.{after, end_of}
 use Rattle.ct_machine.specs.Reads.{catalogue, world_of}
-use Rattle.ct_machine.specs.Step.{decision_of, entry_of}
+use Rattle.ct_machine.specs.Step.{act_draws, decision_of, entry_of}
 use Rattle.ct_machine_laws.specs.Sound.{IsSound, CommitsWell, EachCommitsWell}
 use Rattle.ct_machine.specs.Fits.{FitsOn}
 use Rattle.ct_machine.specs.Seen.{Seen, seen_by}
@@ -50,15 +53,30 @@ abbrev pub EntriesApply : Type 0
 EntriesApply = (m : Machine) (s : ℕ) (what : Command) (act : Act) (reply : Reply) → IsSound m → CommitsWell m s what → decision_of m s what ≡ Commits act reply
     → Applies (db_of m) (entry_of m (m.sessions s) act)
 
--- a sound machine is sound after each statement that commits no act but one that applies, whatever it was answered
+-- a sound machine is sound after each statement that is well, whatever it was answered
 abbrev pub StaysSound : Type 0
-StaysSound = (m : Machine) (s : ℕ) (what : Command) (reply : Reply) → IsSound m → CommitsWell m s what → IsSound (after m s what reply)
+StaysSound = (m : Machine) (s : ℕ) (what : Command) (reply : Reply) → IsSound m → s < 256 → CommitsWell m s what → IsSound (after m s what reply)
 
 -- a play of such statements from the empty database ends in a machine whose entries apply in turn to it, and whose database is
 -- valid
 abbrev pub PlaysKeepValid : Type 0
 PlaysKeepValid = (journal : List Journaled) → EachCommitsWell (opening no_db) journal
     → ApplyInTurn no_db (end_of (opening no_db) journal).past × IsValid (db_of (end_of (opening no_db) journal))
+
+-- ---- what a session of a sound machine sees, and what waits in it
+
+-- a session sees a valid database: the newest one or that of its view, with its own writes that wait
+abbrev pub SeenIsValid : Type 0
+SeenIsValid = (m : Machine) (s : ℕ) → IsSound m → IsValid (seen_by m (m.sessions s)).db
+
+-- the writes that wait in a session apply to the newest database as one commit, whatever others committed since they were made
+abbrev pub PendingApplies : Type 0
+PendingApplies = (m : Machine) (s : ℕ) → IsSound m → 0 < length (m.sessions s).pending
+    → ActApplies (db_of m) (entry_of m (m.sessions s) (Commit (m.sessions s).pending)).version (act_draws (db_of m) (Commit (m.sessions s).pending)) (Commit (m.sessions s).pending)
+
+-- one session alone holds a key
+abbrev pub OneHolds : Type 0
+OneHolds = (m : Machine) (s other table : ℕ) (key : Key) → IsSound m → holds_key table key (m.sessions s) ≡ true → holds_key table key (m.sessions other) ≡ true → s ≡ other
 
 -- ---- which statements commit acts that apply
 
@@ -95,7 +113,7 @@ IsOfTransactions (stmt.SetIsolation level) = Unit {0}
 IsOfTransactions stmt.SetLockTimeout = Unit {0}
 IsOfTransactions statement = ⊥
 
--- nor do BEGIN, COMMIT, ROLLBACK, levels and the lock limit, in a sound machine: no transaction is open
+-- BEGIN, COMMIT, ROLLBACK, levels and the lock limit: COMMIT commits what waits, the others nothing
 abbrev pub TransactionsCommitWell : Type 0
 TransactionsCommitWell = (m : Machine) (s : ℕ) (statement : Stmt) → IsSound m → IsOfTransactions statement → CommitsWell m s (Sql statement)
 

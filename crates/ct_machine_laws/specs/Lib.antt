@@ -1,3 +1,4 @@
+pub mod Transactions
 pub mod Sound
 pub mod Laws
 pub mod Schemas

@@ -2,7 +2,7 @@ ghost use Rattle.ct_machine_laws.specs.Schemas.{CreatesDefinable};
 ghost use Rattle.ct_machine_laws.specs.Acts.{CreatesApply, EnablesApply, DisablesApply, TruncatesApply, SettingsApply};
 ghost use Rattle.ct_machine_laws.specs.Grammar.{ParsedAreSpelled};
 ghost use Rattle.ct_machine_laws.specs.Writes.{WritesSuitTheirTable, SetsSuitTheirVariable, DeclaresSuitTheirVariable};
-ghost use Rattle.ct_machine_laws.specs.Laws.{OpensSound, SoundIsValid, EntriesApply, StaysSound, PlaysKeepValid};
+ghost use Rattle.ct_machine_laws.specs.Laws.{OpensSound, SoundIsValid, EntriesApply, StaysSound, PlaysKeepValid, SeenIsValid, PendingApplies, OneHolds};
 ghost use Rattle.ct_machine_laws.specs.Laws.{SettingsCommitWell, CreatesCommitWell, EnablesCommitWell, DisablesCommitWell, TruncatesCommitWell, WrongCommitsWell, SelectsCommitWell, TransactionsCommitWell, SetsCommitWell, DeclaresCommitWell, CommandsCommitWell, WritesCommitWell};
 ghost use Rattle.ct_machine_laws.specs.Keeping.{KeepsSound};
 
@@ -73,7 +73,7 @@ pub fn entries_apply()
     ensures { EntriesApply }
 {}
 
-/// A sound machine is sound after each such statement, whatever it was answered.
+/// A sound machine is sound after each statement that is well, whatever it was answered; the session's number is a byte.
 pub fn stays_sound()
     ensures { StaysSound }
 {}
@@ -81,6 +81,22 @@ pub fn stays_sound()
 /// A play of such statements from the empty database keeps it valid.
 pub fn plays_keep_valid()
     ensures { PlaysKeepValid }
+{}
+
+/// A session of a sound machine sees a valid database: the newest one or that of its view, with its own writes that wait.
+pub fn seen_is_valid()
+    ensures { SeenIsValid }
+{}
+
+/// The writes that wait in a session of a sound machine apply to its newest database as one commit, whatever others committed since
+/// they were made.
+pub fn pending_applies()
+    ensures { PendingApplies }
+{}
+
+/// No two sessions of a sound machine hold one key.
+pub fn one_holds()
+    ensures { OneHolds }
 {}
 
 /// What ALTER DATABASE commits applies.
@@ -118,7 +134,7 @@ pub fn selects_commit_well()
     ensures { SelectsCommitWell }
 {}
 
-/// BEGIN, COMMIT, ROLLBACK, levels and the lock limit commit nothing, since no transaction is open.
+/// COMMIT commits what waits in its transaction, which applies; BEGIN, ROLLBACK, levels and the lock limit commit nothing.
 pub fn transactions_commit_well()
     ensures { TransactionsCommitWell }
 {}
@@ -145,7 +161,7 @@ pub fn writes_commit_well()
 {}
 
 /// A statement that the grammar gives leaves a sound machine sound, whatever it is answered, where the rows that it writes
-/// fit.
+/// fit; the session's number is a byte.
 pub fn keeps_sound()
     ensures { KeepsSound }
 {}

@@ -48,7 +48,7 @@ pub numbered_map : (f : Table → Table) → ((t : Table) → (f t).schema ≡ t
 numbered_map f same first [] numbered = tt
 numbered_map f same first (t ∷ ts) numbered = (ap (λ s. s.id) (same t) ∙ numbered.0, numbered_map f same (first + 1) ts numbered.1)
 
-names_map : (f : Table → Table) → ((t : Table) → (f t).schema ≡ t.schema) → (tables : List Table)
+pub names_map : (f : Table → Table) → ((t : Table) → (f t).schema ≡ t.schema) → (tables : List Table)
     → names_of (map f tables) ≡ names_of tables
 names_map f same [] = refl
 names_map f same (t ∷ ts) = cc (ap (λ s. folded s.name) (same t), names_map f same ts)
@@ -111,7 +111,7 @@ writes_keep version writes = record {
 
 -- a minimum
 
-with_min_masks : (min : ℕ) (tracked : Option Tracked) → has_masks (with_min min tracked) ≡ has_masks tracked
+pub with_min_masks : (min : ℕ) (tracked : Option Tracked) → has_masks (with_min min tracked) ≡ has_masks tracked
 with_min_masks min None = refl
 with_min_masks min (Some tracked) = refl
 
@@ -213,3 +213,20 @@ tables_follow db version draws (Database keep) applies few numbered names = reco
 }
 tables_follow db version draws (Raise minima) applies few numbered names =
     rw (fold_of_maps raised minima db.tables) (mapped_follow version (after_raises minima) (raises_keep version minima) db.tables few numbered names)
+
+-- a table that is there keeps its schema
+pub act_schema : (schema : Schema) (version : ℕ) (draws : Bool) (act : Act) (tables : List Table) (id : ℕ) → IsSomeAnd (table_of tables id) (λ t. t.schema ≡ schema)
+    → IsSomeAnd (table_of (tables_after act version draws tables) id) (λ t. t.schema ≡ schema)
+act_schema schema version draws (Commit writes) tables id found =
+    subst (λ (ts : List Table). IsSomeAnd (table_of ts id) (λ t. t.schema ≡ schema)) (sym (fold_of_maps written writes tables))
+    (found_map _ _ (after_writes writes) (after_writes_schema writes) (λ t is. after_writes_schema writes t ∙ is) tables id found)
+act_schema schema version draws (Define defined) tables id found = found_append _ tables _ id found
+act_schema schema version draws (Truncate other) tables id found =
+    found_map _ _ (truncated other version draws) (truncation_keeps other version draws).schema (λ t is. (truncation_keeps other version draws).schema t ∙ is) tables id found
+act_schema schema version draws (Enable other masks) tables id found =
+    found_map _ _ (tracked_as other _) (tracked_as_schema other _) (λ t is. tracked_as_schema other _ t ∙ is) tables id found
+act_schema schema version draws (Disable other) tables id found = found_map _ _ (tracked_as other None) (tracked_as_schema other None) (λ t is. tracked_as_schema other None t ∙ is) tables id found
+act_schema schema version draws (Database keep) tables id found = found
+act_schema schema version draws (Raise minima) tables id found =
+    subst (λ (ts : List Table). IsSomeAnd (table_of ts id) (λ t. t.schema ≡ schema)) (sym (fold_of_maps raised minima tables))
+    (found_map _ _ (after_raises minima) (after_raises_schema minima) (λ t is. after_raises_schema minima t ∙ is) tables id found)

@@ -10,7 +10,7 @@ use Rattle.ct_types.specs.declared.entry.Act.{Act}
 use Rattle.ct_types.specs.declared.entry.Act.TheVariants.{Commit, Define, Truncate, Enable, Disable, Database, Raise}
 use Rattle.ct_model.specs.declared.db.Table.{Table}
 use Rattle.ct_model.specs.declared.db.Db.{Db}
-use Rattle.ct_model.specs.Applies.{WriteFits, WritesApply, IsRaise, ActApplies}
+use Rattle.ct_model.specs.Applies.{RowIsOf, WriteFits, WritesApply, IsRaise, ActApplies}
 use Rattle.ct_model.specs.Apply.{written, tracked_as, with_min, truncated, raised, tables_after, keep_after}
 use Rattle.ct_model.specs.Tables.{rows_with, table_of}
 use Rattle.ct_model.specs.Valid.{AreNumbered, IsTrackedValid, IsTableValid}
@@ -61,10 +61,10 @@ each_found P id first (t ∷ ts) numbered found =
     ] in
     step (eqb t.schema.id id) refl found
 
-rewritten_valid : (version : ℕ) (keep : Option Keep) (write : Write) (t : Table) → IsTableValid version keep t → WriteFits write t
+rewritten_valid : (version : ℕ) (keep : Option Keep) (write : Write) (t : Table) → IsTableValid version keep t → RowIsOf t.schema write.op write.key write.row
     → IsTableValid version keep (record t { rows = rows_with t.schema t.rows write.key write.row })
-rewritten_valid version keep write t valid fits =
-    let row = written_row t.schema write.op write.key write.row fits.row in
+rewritten_valid version keep write t valid is =
+    let row = written_row t.schema write.op write.key write.row is in
     record {
       schema = valid.schema;
       rows = rows_fit t.schema t.rows write.key write.row valid.rows (all_weaken _ _ (λ r is. is.0) _ row);
@@ -72,18 +72,18 @@ rewritten_valid version keep write t valid fits =
       tracked = valid.tracked;
     }
 
-written_valid : (version : ℕ) (keep : Option Keep) (write : Write) (t : Table) → IsTableValid version keep t
-    → (t.schema.id ≡ write.table → WriteFits write t) → IsTableValid version keep (written write t)
-written_valid version keep write t valid fits =
+pub written_valid : (version : ℕ) (keep : Option Keep) (write : Write) (t : Table) → IsTableValid version keep t
+    → (t.schema.id ≡ write.table → RowIsOf t.schema write.op write.key write.row) → IsTableValid version keep (written write t)
+written_valid version keep write t valid is =
     let step : (b : Bool) → b ≡ eqb t.schema.id write.table → IsTableValid version keep (cond b (record t { rows = rows_with t.schema t.rows write.key write.row }) t) =
-    elim [ true ↦ (λ e. rewritten_valid version keep write t valid (fits (eqb-true _ _ (sym e)))) | false ↦ (λ e. valid) ] in
+    elim [ true ↦ (λ e. rewritten_valid version keep write t valid (is (eqb-true _ _ (sym e)))) | false ↦ (λ e. valid) ] in
     step (eqb t.schema.id write.table) refl
 
 pub write_keeps : (version : ℕ) (keep : Option Keep) (write : Write) (tables : List Table) → AreNumbered 1 tables
     → IsSomeAnd (table_of tables write.table) (WriteFits write) → AllByRecursion (IsTableValid version keep) tables
     → AllByRecursion (IsTableValid version keep) (map (written write) tables)
 write_keeps version keep write tables numbered fits all =
-    all_map (λ t. IsTableValid version keep t × (t.schema.id ≡ write.table → WriteFits write t)) _ (written write) (λ t both. written_valid version keep write t both.0 both.1) tables
+    all_map (λ t. IsTableValid version keep t × (t.schema.id ≡ write.table → WriteFits write t)) _ (written write) (λ t both. written_valid version keep write t both.0 (λ here. (both.1 here).row)) tables
     (all_join _ _ _ (λ t valid fits. (valid, fits)) tables all (each_found (WriteFits write) write.table 1 tables numbered fits))
 
 writes_keep : (version : ℕ) (keep : Option Keep) (writes : List Write) (tables : List Table) → AreNumbered 1 tables

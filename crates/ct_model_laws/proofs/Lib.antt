@@ -1,3 +1,4 @@
+pub mod Alike
 pub mod Carrying
 pub mod Creating
 pub mod Cutting
@@ -11,11 +12,13 @@ pub mod Masking
 pub mod Moving
 pub mod NetKeys
 pub mod NetTelling
+pub mod Numbered
 pub mod Raising
 pub mod Rises
 pub mod RowPut
 pub mod RowsMade
 pub mod Somewhere
+pub mod Standing
 pub mod Staying
 pub mod Trimming
 pub mod Validity

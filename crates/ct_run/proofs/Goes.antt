@@ -108,16 +108,16 @@ module _ {D : Type 0} where
   pub goes_none : (made : Growing) (core : CoreState D) → Goes [] made made core core
   goes_none made core = record { own = []; added = refl; in_order = tt; plays = λ m stands. (tt, stands); sound = λ m stands sound. sound }
 
-  goes_one : (statement : Numbered) (old new : Growing) (one : Journaled) (before after : CoreState D) → new ≡ with_block old one → IsOf statement one
+  goes_one : (statement : Numbered) (old new : Growing) (one : Journaled) (before after : CoreState D) → new ≡ with_block old one → IsOf statement one → one.session < 256
       → ((m : Machine) → Stands before m → Follows m one.session one.what one.reply) → ((m : Machine) → Stands before m → Stands after (play.after m one.session one.what one.reply))
       → ((m : Machine) → Stands before m → is_memory one.reply ≡ false → RowsFit (seen_by m (m.sessions one.session)) one.what)
       → Goes (statement ∷ []) old new before after
-  goes_one statement old new one before after added is follows stands fits = record {
+  goes_one statement old new one before after added is byte follows stands fits = record {
     own = one ∷ [];
     added = added;
     in_order = (is, tt);
     plays = λ m s. ((follows m s, tt), stands m s);
-    sound = λ m s sound. (sound, keeps_sound m one.session one.what one.reply sound (means_spelled statement.text one.what is.means) (fits m s));
+    sound = λ m s sound. (sound, keeps_sound m one.session one.what one.reply sound byte (means_spelled statement.text one.what is.means) (fits m s));
   }
 
   pub goes_on : (statements others : List Numbered) (old mid new : Growing) (before between after : CoreState D)
@@ -140,13 +140,13 @@ module _ {D : Type 0} where
   pub goes_statement : (lane : Lane) (i : ℕ) (text : List ℕ) (old mid new : Growing) (one : Journaled) (before between after : CoreState D)
       → i < length lane.statements → text ≡ get_or lane.statements i text
       → Goes (numbered_from lane.session lane.first (take i lane.statements)) old mid before between
-      → new ≡ with_block mid one → IsOf (record { session = lane.session; number = lane.first + i; text = text }) one
+      → new ≡ with_block mid one → IsOf (record { session = lane.session; number = lane.first + i; text = text }) one → one.session < 256
       → ((m : Machine) → Stands between m → Follows m one.session one.what one.reply) → ((m : Machine) → Stands between m → Stands after (play.after m one.session one.what one.reply))
       → ((m : Machine) → Stands between m → is_memory one.reply ≡ false → RowsFit (seen_by m (m.sessions one.session)) one.what)
       → Goes (numbered_from lane.session lane.first (take (i + 1) lane.statements)) old new before after
-  goes_statement lane i text old mid new one before between after inside is goes added of follows stands fits =
+  goes_statement lane i text old mid new one before between after inside is goes added of byte follows stands fits =
       subst (λ statements. Goes statements old new before after) (sym (numbered_more lane i text inside is))
-      (goes_on _ _ old mid new before between after goes (goes_one _ mid new one between after added of follows stands fits))
+      (goes_on _ _ old mid new before between after goes (goes_one _ mid new one between after added of byte follows stands fits))
 
   -- a phase goes on by one lane
   pub goes_lane : (lanes : List Lane) (i : ℕ) (lane : Lane) (old mid new : Growing) (before between after : CoreState D)

@@ -90,7 +90,8 @@ pub record IsRunOf (script : Script) (journals : List (List Journaled)) : Type 0
   pub in_order : AreInOrder script.phases journals
   pub is_play : IsPlay (opening no_db) (all_of journals)
 
--- each machine that a run passes is sound: its database is valid, and its entries apply in turn to the empty one
+-- each machine that a run passes is sound: its database is valid, its entries apply in turn to the empty one, and what waits in the
+-- transactions of its sessions applies to it
 abbrev pub IsSoundThroughout : List (List Journaled) → Type 0
 IsSoundThroughout journals = StaySound (opening no_db) (all_of journals)
 

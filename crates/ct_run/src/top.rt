@@ -175,8 +175,8 @@ fn end<S: Source, K: Sink, D, G: Gate>(
 /// alone, `BadScript` exactly where the bytes are no script, `TooLarge` exactly where more than 16,777,216 bytes were
 /// taken, `ReadFault` and `WriteFault` only where the count of the source and of the sink rose. `Memory` may come at any
 /// time, and a front part of the transcript is then written, which may be all or nothing of it. Each machine that a run
-/// passes is sound: its database is valid, and its entries apply in turn to the empty one. The disk comes back as it was
-/// handed in.
+/// passes is sound: its database is valid, its entries apply in turn to the empty one, and what waits in the transactions
+/// of its sessions applies to it. The disk comes back as it was handed in.
 pub fn run_top<R: Threads + Wait, S: Source, K: Sink, D: Disk + Send, G: Gate + Sync>(
     _rt: &R,
     alloc: Global,

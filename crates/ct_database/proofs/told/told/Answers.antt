@@ -9,9 +9,9 @@ pub returns : goal.returns
 returns c =
     let tables = c.args.tables.now in
     let none : c.loop-pair.pair-iterator ≡ [] = c.in-None.ensures.steps.0 in
-    let all : c.into_iter-pair-iterator.result ≡ c.args.older.now = c.into_iter-pair-iterator.ensures.into_iter_gives ∙ c.pairs-pair-items.ensures.all in
+    let all : c.into_iter-pair-iterator.result ≡ c.args.sealed.now = c.into_iter-pair-iterator.ensures.into_iter_gives ∙ c.pairs-pair-items.ensures.all in
     sym (append-nil c.loop-pair.made)
     ∙ sym (ap (λ pairs. c.loop-pair.made ++ map committed (filter (commit_stays tables) (commits_of pairs))) none)
     ∙ c.loop-pair.invariant
     ∙ ap (λ pairs. map committed (filter (commit_stays tables) (commits_of pairs))) all
-    ∙ told_trimmed tables (commits_of c.args.older.now)
+    ∙ told_trimmed tables (commits_of c.args.sealed.now)

@@ -4,7 +4,7 @@ use Rattle.ct_types.specs.declared.entry.Kept.{Kept}
 use Rattle.ct_model.specs.declared.db.Dated.{Dated}
 use Rattle.ct_model.specs.Net.{changes_above, last_of, window}
 use Rattle.ct_model.specs.Versions.{version_row_of}
-use Rattle.ct_database.specs.Steps.{StoredCommits, AreNewest, commits_of, newest_of, dated, last_here, last_in}
+use Rattle.ct_database.specs.Steps.{StoredCommits, AreNewest, newest_of, dated, last_here, last_in}
 use Rattle.ct_database.proofs.Lasts.{newest_has, newest_has_none}
 use Rattle.ct_database.proofs.commits.Commits.last.Goals as goal
 use Rattle.ct_database.proofs.commits.Commits.last.Goals.{in-Some+in_default-last_change, in_default}
@@ -12,11 +12,11 @@ use Rattle.ct_database.proofs.commits.Commits.last.Goals.{in-Some+in_default-las
 pub returns-in-Some-last_change : goal.returns-in-Some-last_change
 returns-in-Some-last_change c =
     let one = c.in-Some.newest.value in
-    let older = commits_of c.self.inside.older in
+    let older = c.self.inside.older in
     let change = c.in-Some-last_change.change.now in
     let last : Dated = dated c.in-Some.newest.value.version c.in-Some-last_change.change.now in
     let newest : newest_of c.self.inside.newest ≡ c.in-Some.newest.value ∷ [] = ap newest_of c.in-Some.is in
-    let above : AreNewest (commits_of c.self.inside.older) (c.in-Some.newest.value ∷ []) = subst (AreNewest (commits_of c.self.inside.older)) newest c.self.invariant.0.1 in
+    let above : AreNewest c.self.inside.older (c.in-Some.newest.value ∷ []) = subst (AreNewest c.self.inside.older) newest c.self.invariant.0 in
     let has : last_here c.args.table c.in-Some.newest.value.version c.args.key.now c.in-Some.newest.value.changes ≡ Some (dated c.in-Some.newest.value.version c.in-Some-last_change.change.now) =
     sym
     (ap (λ found. option_map (dated one.version) (option_copied found)) (sym c.in-Some-last_change.is) ∙ c.last_change.ensures one.version
@@ -30,7 +30,7 @@ returns-in-Some-last_change c =
 
 pub returns : goal.returns
 returns c =
-    let older = commits_of c.self.inside.older in
+    let older = c.self.inside.older in
     let newest = newest_of c.self.inside.newest in
     let none : last_in c.args.table c.args.key.now (newest_of c.self.inside.newest) ≡ None = elim c.match-self.branch [
       | in-Some+in_default-last_change w ↦

@@ -1,13 +1,15 @@
-use Rattle.std.proofs.Common.{None, sym, subst, ap}
-use Rattle.ct_types.specs.declared.catalogue.Catalogued.{Catalogued}
-use Rattle.ct_types.specs.declared.schema.Schema.{Schema}
+use Rattle.std.proofs.Common.{◌≡◌, ◌++◌, ◌∷◌, [], List, None, sym, ap₂, ◌∙◌, subst, arith}
+use Rattle.ct_model.specs.declared.db.Table.{Table}
+use Rattle.ct_model.specs.Valid.{AreNumbered}
 use Rattle.ct_database.specs.Storable.{IsSchemaStorable}
-use Rattle.ct_database.proofs.Listing.{defined}
+use Rattle.ct_database.proofs.Numbered.{numbered_more}
 use Rattle.ct_database.proofs.tables.Tables.define.Goals as goal
 
-pub invariant_of-self : goal.invariant_of-self
-invariant_of-self c =
-    let entry_of : Schema → Catalogued = (λ schema. record { schema = schema; tracked = None }) in
-    let storable = subst (λ ts. IsSchemaStorable ts c.args.schema) (sym c.self.view_is) c.requires in
-    defined c.add.result c.self.inside.catalogue.items c.add.new.catalogue.items c.self.inside.tables.items c.add.new.tables.items c.args.schema (entry_of c.in_ok-copy.field-0) c.in_ok-table.table
-    c.self.invariant storable (ap entry_of c.in_ok-copy.ensures) c.in_ok-table.ensures c.add.ensures.catalogue c.add.ensures.tables c.add.ensures.unlisted c.add.ensures.unchanged
+pub replace-requires : goal.replace-requires
+replace-requires c =
+    let tables = c.self.inside.tables.items in
+    let table : Table = record { schema = c.args.schema; rows = []; tracked = None } in
+    let storable : IsSchemaStorable c.self.inside.tables.items c.args.schema = subst (λ (it : List Table). IsSchemaStorable it c.args.schema) (sym c.self.view_is) c.requires in
+    let made : c.push.new.self.items ≡ c.self.inside.tables.items ++ record { schema = c.args.schema; rows = []; tracked = None } ∷ [] =
+    c.in_ok-push.ensures.items ∙ ap₂ (λ (front : List Table) (last : Table). front ++ last ∷ []) (c.in_ok-made.ensures ∙ c.as_slice.ensures.value) c.in_ok-new.ensures in
+    subst (AreNumbered 1) (sym made) (numbered_more 1 tables table c.self.invariant.numbered (storable.0 ∙ omega arith))

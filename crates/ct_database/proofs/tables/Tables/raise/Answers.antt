@@ -1,28 +1,20 @@
-use Rattle.std.proofs.Common.{◌≡◌, List, ◌++◌, length, take, drop, map, fold, sym, ap, ◌∙◌, subst, arith}
-use Rattle.ct_types.specs.declared.catalogue.Catalogued.{Catalogued}
+use Rattle.std.proofs.Common.{◌≡◌, List, map, fold, sym, ap, ◌∙◌, subst}
+use Rattle.std.proofs.lemmas.Result.{on_ok_weaker}
 use Rattle.ct_model.specs.declared.db.Table.{Table}
 use Rattle.ct_model.specs.Apply.{raised}
-use Rattle.ct_model.specs.Tables.{catalogued}
-use Rattle.ct_database.specs.Steps.{AreListed}
-use Rattle.ct_database.proofs.Placed.{front_again}
-use Rattle.ct_database.proofs.Listing.{schemas, schemas_all_raised, listed_schemas, listed_again}
+use Rattle.ct_model.specs.Valid.{AreNumbered}
+use Rattle.ct_database.proofs.Listing.{numbered_raised}
+use Rattle.ct_database.proofs.Needs.{raised_all, raised_each}
 use Rattle.ct_database.proofs.tables.Tables.raise.Goals as goal
 
-pub list_again-requires : goal.list_again-requires
-list_again-requires c =
-    let kept : schemas c.raise_all.new.tables ≡ schemas c.self.inside.tables.items = ap schemas (c.raise_all.ensures ∙ ap (λ (start : List Table). fold (λ before listed. map (raised listed) before) start c.args.minima.now) c.as_mut_slice.ensures.value) ∙ schemas_all_raised c.args.minima.now c.self.inside.tables.items in
-    let count : length c.raise_all.new.tables ≡ c.self.inside.tables.len = omega arith in
-    let whole : take c.self.inside.tables.len (c.raise_all.new.tables ++ drop (length c.raise_all.new.tables) c.self.inside.tables.items) ≡ c.raise_all.new.tables = front_again c.raise_all.new.tables (drop (length c.raise_all.new.tables) c.self.inside.tables.items) c.self.inside.tables.len count in
-    ap (map (λ (listed : Catalogued). listed.schema)) c.as_mut_slice-2.ensures.value
-    ∙ listed_schemas c.self.inside.catalogue.items c.self.inside.tables.items c.raise_all.new.tables c.self.invariant.same kept ∙ ap schemas (sym (c.as_slice.ensures.value ∙ whole))
+pub replace-requires : goal.replace-requires
+replace-requires c =
+    let each : c.in_ok-made.made.items ≡ fold (λ before listed. map (raised listed) before) c.self.inside.tables.items c.args.minima.now =
+    c.in_ok-made.ensures ∙ ap (λ (tables : List Table). map (raised_all c.args.minima.now) tables) c.as_slice.ensures.value ∙ sym (raised_each c.args.minima.now c.self.inside.tables.items) in
+    subst (AreNumbered 1) (sym each) (numbered_raised c.args.minima.now c.self.inside.tables.items c.self.invariant.numbered)
 
-pub invariant_of-self : goal.invariant_of-self
-invariant_of-self c =
-    let kept : schemas c.raise_all.new.tables ≡ schemas c.self.inside.tables.items = ap schemas (c.raise_all.ensures ∙ ap (λ (start : List Table). fold (λ before listed. map (raised listed) before) start c.args.minima.now) c.as_mut_slice.ensures.value) ∙ schemas_all_raised c.args.minima.now c.self.inside.tables.items in
-    let count : length c.raise_all.new.tables ≡ c.self.inside.tables.len = omega arith in
-    let whole : take c.self.inside.tables.len (c.raise_all.new.tables ++ drop (length c.raise_all.new.tables) c.self.inside.tables.items) ≡ c.raise_all.new.tables = front_again c.raise_all.new.tables (drop (length c.raise_all.new.tables) c.self.inside.tables.items) c.self.inside.tables.len count in
-    let full : length c.list_again.new.catalogue ≡ c.self.inside.catalogue.len = omega arith in
-    let listed : take c.self.inside.catalogue.len (c.list_again.new.catalogue ++ drop (length c.list_again.new.catalogue) c.self.inside.catalogue.items) ≡ c.list_again.new.catalogue = front_again c.list_again.new.catalogue (drop (length c.list_again.new.catalogue) c.self.inside.catalogue.items) c.self.inside.catalogue.len full in
-    let again : AreListed c.list_again.new.catalogue c.raise_all.new.tables = listed_again c.list_again.new.catalogue c.self.inside.tables.items c.raise_all.new.tables c.self.invariant.numbered kept (c.list_again.ensures ∙ ap (map catalogued) (c.as_slice.ensures.value ∙ whole)) in
-    subst (λ catalogue. AreListed catalogue (take c.self.inside.tables.len (c.raise_all.new.tables ++ drop (length c.raise_all.new.tables) c.self.inside.tables.items))) (sym listed)
-    (subst (λ tables. AreListed c.list_again.new.catalogue tables) (sym whole) again)
+pub returns-clause-ok : goal.returns-clause-ok
+returns-clause-ok c =
+    let each : c.in_ok-made.made.items ≡ fold (λ before listed. map (raised listed) before) c.args.self.now c.args.minima.now =
+    c.in_ok-made.ensures ∙ ap (λ (tables : List Table). map (raised_all c.args.minima.now) tables) (c.as_slice.ensures.value ∙ c.self.view_is) ∙ sym (raised_each c.args.minima.now c.args.self.now) in
+    on_ok_weaker c.replace.result (λ e. e ∙ each) c.replace.ensures.ok

@@ -1,0 +1,5 @@
+pub mod Members
+pub mod Columns
+pub mod Operands
+pub mod Versions
+pub mod Walked

@@ -1,0 +1,15 @@
+-- The law of the causes of NoColumn, Ambiguous and TypeClash at an expression.
+use Rattle.std.specs.Prelude.{◌≡◌, List, Err}
+use Rattle.ct_types.specs.declared.catalogue.Catalogued.{Catalogued}
+use Rattle.ct_types.specs.declared.catalogue.Variable.{Variable}
+use Rattle.ct_types.specs.declared.expr.Expr.{Expr}
+use Rattle.ct_types.specs.declared.refusal.Refusal.{Refusal}
+use Rattle.ct_bind_expr.specs.declared.place.Place.{Place}
+use Rattle.ct_bind_expr.specs.Walk.{walk}
+use Rattle.ct_bind_place_laws.specs.Causes.{HasCause}
+
+-- where an expression is refused at a place, a part of it has the cause
+abbrev pub ExpressionsHaveCauses : Type 0
+ExpressionsHaveCauses =
+    (tables : List Catalogued) (variables : List Variable) (place : Place) (x : Expr) (refusal : Refusal)
+    → walk tables variables x place ≡ Err refusal → HasCause tables variables place x refusal

@@ -1,0 +1,4 @@
+pub mod Parts
+pub mod Columns
+pub mod Causes
+pub mod Laws

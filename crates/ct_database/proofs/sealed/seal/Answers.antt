@@ -1,0 +1,17 @@
+use Rattle.std.proofs.Common.{◌≡◌, ap₂, ◌∙◌}
+use Rattle.ct_database.specs.Steps.{EndsAt, older_of}
+use Rattle.ct_database.proofs.Chunks.{sealed_commits, sealed_keyed}
+use Rattle.ct_database.proofs.sealed.seal.Goals as goal
+
+pub returns-in_ok-put-in-Some-clause-keyed : goal.returns-in_ok-put-in-Some-clause-keyed
+returns-in_ok-put-in-Some-clause-keyed c =
+    let at : EndsAt c.in-Some.key c.args.recent.now = rw c.in-Some.is at c.in_ok-last_key.ensures in
+    let is : c.in_ok-chunk-in-Some.chunk.value ≡ c.args.recent.now = c.in_ok-chunk-in-Some.ensures.ok ∙ c.in_ok-share-in-Some.ensures in
+    rw c.in_ok-put-in-Some.ensures.ok (sealed_keyed c.args.sealed.now c.args.recent.now c.in-Some.key c.in_ok-chunk-in-Some.chunk c.requires.keyed at c.requires.rising is)
+
+pub returns-in_ok-put-in-Some-clause-same : goal.returns-in_ok-put-in-Some-clause-same
+returns-in_ok-put-in-Some-clause-same c =
+    let at : EndsAt c.in-Some.key c.args.recent.now = rw c.in-Some.is at c.in_ok-last_key.ensures in
+    let is : c.in_ok-chunk-in-Some.chunk.value ≡ c.args.recent.now = c.in_ok-chunk-in-Some.ensures.ok ∙ c.in_ok-share-in-Some.ensures in
+    ap₂ older_of c.in_ok-put-in-Some.ensures.ok c.clear.ensures
+    ∙ sealed_commits c.args.sealed.now c.args.recent.now c.in-Some.key c.in_ok-chunk-in-Some.chunk c.requires.keyed at c.requires.rising is

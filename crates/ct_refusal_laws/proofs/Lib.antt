@@ -1,0 +1,6 @@
+pub mod Numbers
+pub mod Steps
+pub mod Evaluation
+pub mod Answers
+pub mod Fitting
+pub mod Writes

@@ -1,0 +1,33 @@
+-- What evaluation, queries and writes refuse.
+use Rattle.std.specs.Prelude.{◌≡◌, List, Err}
+use Rattle.ct_types.specs.declared.bound.BoundExpr.{BoundExpr}
+use Rattle.ct_types.specs.declared.bound.BoundWrite.{BoundWrite}
+use Rattle.ct_types.specs.declared.bound.Plan.{Plan}
+use Rattle.ct_types.specs.declared.catalogue.Catalogued.{Catalogued}
+use Rattle.ct_types.specs.declared.refusal.Refusal.{Refusal}
+use Rattle.ct_types.specs.declared.refusal.Refusal.TheVariants.{Overflow}
+use Rattle.ct_types.specs.declared.value.Row.{Row}
+use Rattle.ct_expr.specs.Meaning.{World, Scene, value, truth}
+use Rattle.ct_query.specs.Answer.{answer}
+use Rattle.ct_write.specs.Writes.{writes_of}
+use Rattle.ct_refusal_laws.specs.Overflows.{Overflows}
+use Rattle.ct_refusal_laws.specs.Queries.{AnswerOverflows}
+use Rattle.ct_refusal_laws.specs.Writes.{WriteRefuses}
+
+-- an expression that comes to no value refuses Overflow, at a part where a number leaves 64 bits
+abbrev pub ValuesRefuseOverflow : Type 0
+ValuesRefuseOverflow = (s : Scene) (x : BoundExpr) (refusal : Refusal) → value s x ≡ Err refusal → (refusal ≡ Overflow) × Overflows s x
+
+-- so does a condition that comes to no truth
+abbrev pub TruthsRefuseOverflow : Type 0
+TruthsRefuseOverflow = (s : Scene) (x : BoundExpr) (refusal : Refusal) → truth s x ≡ Err refusal → (refusal ≡ Overflow) × Overflows s x
+
+-- a SELECT that is not answered refuses Overflow, in one of its expressions on a row on which that is evaluated
+abbrev pub AnswersRefuseOverflow : Type 0
+AnswersRefuseOverflow =
+    (world : World) (plan : Plan) (lefts rights : List Row) (refusal : Refusal) → answer world plan lefts rights ≡ Err refusal → (refusal ≡ Overflow) × AnswerOverflows world plan lefts rights
+
+-- what a write refuses has its cause: so it is Overflow, NotNull or TooLong
+abbrev pub WritesRefuse : Type 0
+WritesRefuse =
+    (w : World) (table : Catalogued) (bound : BoundWrite) (rows : List Row) (refusal : Refusal) → writes_of w table bound rows ≡ Err refusal → WriteRefuses w table bound rows refusal

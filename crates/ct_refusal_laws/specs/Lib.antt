@@ -1,0 +1,6 @@
+pub mod Parts
+pub mod Overflows
+pub mod Queries
+pub mod Misfits
+pub mod Writes
+pub mod Laws

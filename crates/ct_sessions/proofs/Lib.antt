@@ -1,0 +1,5 @@
+pub mod Locked
+pub mod Seating
+pub mod Shares
+pub mod Soundness
+pub mod Standing

@@ -1,0 +1,22 @@
+use Rattle.std.proofs.Common.{◌≡◌, ◌∙◌, length, vec_len, refl, sym, ap, arith}
+use Rattle.std.specs.List.{position_or_len}
+use Rattle.ct_sessions.specs.Seats.{is_of}
+use Rattle.ct_sessions.specs.Steps.{seat_viewed}
+use Rattle.ct_sessions.proofs.Seating.{turned_at, unmoved, vacant_past}
+use Rattle.ct_sessions.proofs.views.view.Goals as goal
+
+pub returns-then-place-len : goal.returns-then-place-len
+returns-then-place-len c =
+    let seats = c.args.seats.now.items in
+    let at : c.place_of-place.result ≡ position_or_len (is_of c.args.number) c.args.seats.now.items = c.place_of-place.ensures ∙ ap (position_or_len (is_of c.args.number)) c.as_slice.ensures.value in
+    let count : length c.args.seats.now.items ≡ vec_len c.args.seats.now = sym (ap length c.as_slice.ensures.value) ∙ c.as_slice.ensures.len in
+    turned_at seats seats c.args.number c.place_of-place.result c.index_mut-seat.result.now c.take_view.new.seat seat_viewed
+    (λ n. refl) at (omega arith) c.index_mut-seat.ensures.value c.take_view.ensures.number c.take_view.ensures.viewed
+
+pub returns-else-place-len : goal.returns-else-place-len
+returns-else-place-len c =
+    let seats = c.args.seats.now.items in
+    let at : c.place_of-place.result ≡ position_or_len (is_of c.args.number) c.args.seats.now.items = c.place_of-place.ensures ∙ ap (position_or_len (is_of c.args.number)) c.as_slice.ensures.value in
+    let count : length c.args.seats.now.items ≡ vec_len c.args.seats.now = sym (ap length c.as_slice.ensures.value) ∙ c.as_slice.ensures.len in
+    let none = vacant_past seats c.args.number c.place_of-place.result at (omega arith) in
+    unmoved seats c.args.number _ (none ∙ sym (ap seat_viewed none))
