@@ -1,3 +1,4 @@
+pub mod Climbing
 pub mod Dots
 pub mod Each
 pub mod SameKey

@@ -7,6 +7,7 @@ ghost use Rattle.ct_model.specs.Names.{folded};
 
 use crate::names::is_same_name;
 use crate::schemas::{is_schema, name_bytes};
+use crate::valid::is_keep_valid;
 use crate::writes::writes_apply;
 use ct_model::{Db, Table, find_table};
 use ct_types::{Act, Keep, List, Memory, Min, Schema, Tracked, Write};
@@ -40,7 +41,9 @@ fn is_new_table(tables: &[Table], name: &[u8]) -> bool
     tables.iter().all(|table| !is_same_name(name_bytes(&table.schema.name), name))
 }
 
-fn is_new_schema(tables: &[Table], schema: &Schema) -> bool
+/// Whether a schema may go last into these tables: its id is the next one, its name is new, there are fewer than 256 tables, and
+/// a definition may give it.
+pub fn is_new_schema(tables: &[Table], schema: &Schema) -> bool
     ensures { IsTrue result ↔ IsNewSchema tables.now schema.now }
 {
     tables.len() < 256
@@ -98,7 +101,7 @@ fn database_applies(db: &Db, version: u64, draws: bool, keep: Option<Keep>) -> b
     ensures { IsTrue result ↔ ActApplies db.now version draws (act_is.Database keep) }
 {
     match keep {
-        Some(keep) => { !draws && keep.retention >= 60 && keep.retention <= 2_147_483_647 * 86_400 }
+        Some(_) => !draws && is_keep_valid(keep),
         None => !draws && db.keep.is_some() && are_untracked(db.tables.as_slice()),
     }
 }

@@ -67,7 +67,8 @@ fn update_mask_fits(table: &Table, mask: u64) -> bool
     }
 }
 
-fn mask_fits(table: &Table, op: Op, mask: u64) -> bool
+/// Whether a mask fits an operation on a table.
+pub(crate) fn mask_fits(table: &Table, op: Op, mask: u64) -> bool
     ensures { IsTrue result ↔ MaskFits table.now op mask }
 {
     match op {

@@ -106,7 +106,7 @@ column_by {Cause = Cause} place name closed none several =
 
 -- ---- the columns that CHANGETABLE(VERSION ..) shows
 
-chosen_by : {A : Type 0} {Cause : Refusal → Type 0} (test : Bool) (here : A) (other : Answer A) → (test ≡ false → Caused Cause other) → Caused Cause (cond test (Ok here) other)
+pub chosen_by : {A : Type 0} {Cause : Refusal → Type 0} (test : Bool) (here : A) (other : Answer A) → (test ≡ false → Caused Cause other) → Caused Cause (cond test (Ok here) other)
 chosen_by true here other go = ok_caused here
 chosen_by false here other go = go refl
 

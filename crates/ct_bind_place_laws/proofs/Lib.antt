@@ -3,3 +3,8 @@ pub mod Columns
 pub mod Operands
 pub mod Versions
 pub mod Walked
+pub mod Sources
+pub mod Queries
+pub mod Writes
+pub mod Definitions
+pub mod Statements

@@ -25,3 +25,8 @@ found_is_in test (y ∷ xs) x e =
       | false ↦ (λ fails e. let more = found_is_in test xs x e in (later_is_in y xs x more.0, more.1))
     ] in
     step (test y) refl e
+
+-- what holds of every member of a list holds of each
+pub all_members : {X : Type 0} (P : X → Type 0) (xs : List X) → ((x : X) → Contains xs x → P x) → AllByRecursion P xs
+all_members P [] go = tt
+all_members P (x ∷ xs) go = (go x (first_is_in x xs), all_members P xs (λ y is. go y (later_is_in x xs y is)))

@@ -41,7 +41,7 @@ tracked_is tables name table e =
 
 -- ---- the list
 
-not_true : (b : Bool) → not b ≡ false → b ≡ true
+pub not_true : (b : Bool) → not b ≡ false → b ≡ true
 not_true true e = refl
 not_true false e = absurd cc
 
@@ -135,7 +135,7 @@ module _ (tables : List Catalogued) (variables : List Variable) (place : Place) 
       then_caused _ _ (operand_by tables variables place kind y known.0 (λ no. bad 0 y kind refl refl no))
       (λ value. then_caused _ _ (values_by kinds ys known.1 (λ at z k stands is no. bad (suc at) z k stands is no)) (λ more. ok_caused _))
 
-  tuple_by : (kinds : List Kind) (ys : List Expr) → AllByRecursion (λ y. Caused Cause (walk tables variables y place)) ys → ((wanted got : ℕ) → Cause (CountClash wanted got))
+  pub tuple_by : (kinds : List Kind) (ys : List Expr) → AllByRecursion (λ y. Caused Cause (walk tables variables y place)) ys → ((wanted got : ℕ) → Cause (CountClash wanted got))
       → ((at : ℕ) (y : Expr) (kind : Kind) → slice_get ys at ≡ Some y → slice_get kinds at ≡ Some kind → IsNoOperand tables variables place kind y → Cause TypeClash)
       → Caused Cause (tuple place kinds (map (walk tables variables) ys))
   unfolding tuple

@@ -1,11 +1,12 @@
 -- Each refusal of NoColumn, Ambiguous and TypeClash has its cause at a part: by induction over the expression, one case for each form.
-use Rattle.std.proofs.Common.{◌≡◌, ◌⊎◌, ℕ, false, List, map, Some, Ok, inl, inr, refl, sym, ap, ◌∙◌, subst}
+use Rattle.std.proofs.Common.{◌≡◌, ◌⊎◌, ℕ, false, List, map, Ok, inl, inr, refl, sym, ap, ◌∙◌, subst}
 use Rattle.std.specs.List.{AllByRecursion, Contains}
 use Rattle.ct_types.specs.declared.bound.BoundRowVersion.{BoundRowVersion}
 use Rattle.ct_types.specs.declared.catalogue.Catalogued.{Catalogued}
 use Rattle.ct_types.specs.declared.catalogue.Variable.{Variable}
 use Rattle.ct_types.specs.declared.expr.Expr.{Expr, roll-Expr}
 use Rattle.ct_types.specs.declared.expr.Expr.TheOpen as e
+use Rattle.ct_types.specs.declared.expr.Expr.TheOpen.{RowVersion-F, Scalar-F, Term-F}
 use Rattle.ct_types.specs.declared.expr.RowVersion.{RowVersion, roll-RowVersion}
 use Rattle.ct_types.specs.declared.expr.Scalar.{Scalar, roll-Scalar}
 use Rattle.ct_types.specs.declared.expr.Term.{Term, roll-Term}
@@ -18,18 +19,18 @@ use Rattle.ct_types.specs.Answers.{Answer, ◌>>=◌}
 use Rattle.ct_types.proofs.AnswersCaused.{Caused, ok_caused, weaker, then_caused, after_caused, met_caused, or_caused}
 use Rattle.ct_types.proofs.AnswersTaken.{steps, same_Ok}
 use Rattle.ct_model.proofs.Members.{all_map}
-use Rattle.ct_bind_names.specs.Catalogue.{table_named, tracked_table, variable_from, declared_variable}
-use Rattle.ct_bind_names.specs.Names.{same, table_name}
+use Rattle.ct_bind_names.specs.Catalogue.{tracked_table, variable_from, declared_variable}
+use Rattle.ct_bind_names.specs.Names.{same}
 use Rattle.ct_bind_names.specs.Numbers.{literal, within}
 use Rattle.ct_bind_expr.specs.declared.place.Place.{Place}
 use Rattle.ct_bind_expr.specs.Versions.{Walk, version_of}
 use Rattle.ct_bind_expr.specs.Walk.{TermWalk, walk, version_walk, scalar_walk, term_walk, number_literal, variable, scalar_column}
 use Rattle.ct_bind_expr.proofs.Forms.{Known, Form, VersionForm, ScalarForm, TermForm, parts, version_parts, scalar_parts, term_parts, by_forms, form_walk, version_form_walk, scalar_form_walk, walked, version_walked, scalar_walked, term_walked}
-use Rattle.ct_bind_place_laws.specs.Causes.{OfVersion, OfScalar, OfForm, HasCause}
+use Rattle.ct_bind_place_laws.specs.Causes.{IsTable, OfVersion, OfScalar, OfForm, HasCause}
 use Rattle.ct_bind_place_laws.specs.Columns.{IsNotShown}
 use Rattle.ct_bind_place_laws.specs.Laws.{ExpressionsHaveCauses}
 use Rattle.ct_bind_place_laws.specs.Parts as of
-use Rattle.ct_bind_place_laws.specs.Parts.{IsVersionValue, IsScalarValue, IsTermValue, IsOperand, HasPart, itself, inside}
+use Rattle.ct_bind_place_laws.specs.Parts.{IsOperand, HasPart, itself, inside}
 use Rattle.ct_bind_place_laws.proofs.Columns.{column_by, version_column_by}
 use Rattle.ct_bind_place_laws.proofs.Members.{each_is_in}
 use Rattle.ct_bind_place_laws.proofs.Operands.{NoOperand, IsFine, IsFineTerm, min_valid_version_by, object_id_by, negative_by, negated_by, is_null_by, is_not_null_by, column_in_mask_by, if_null_by, compare_by, property_by, chain_by, sum_by}
@@ -41,27 +42,25 @@ module _ (tables : List Catalogued) (variables : List Variable) where
 
   -- what CHANGETABLE(VERSION ..) refuses is its own, or that of a value
   abbrev CauseOfVersion : Place → RowVersion → Refusal → Type 0
-  CauseOfVersion place version refusal = OfVersion tables variables place version refusal ⊎ ((y : Expr) × IsVersionValue version y × HasCause tables variables place y refusal)
+  CauseOfVersion place version refusal = OfVersion tables variables place version refusal ⊎ ((y : Expr) × Contains version.values y × HasCause tables variables place y refusal)
 
   -- the table whose schema it comes to is one of the name
   abbrev TableIs : RowVersion → Schema → Type 0
-  TableIs version schema = (form : of.VersionForm) × (version ≡ roll-RowVersion form) × ((table : Catalogued) × (table_named tables (table_name form.table) ≡ Some table) × (table.schema ≡ schema))
+  TableIs version schema = (table : Catalogued) × IsTable tables version table × (table.schema ≡ schema)
 
   record OfRowVersion (version : RowVersion) : Type 0 where
     caused : (place : Place) → Caused (CauseOfVersion place version) (version_walk tables variables version place)
     table : (place : Place) (schema : Schema) (bound : BoundRowVersion) → version_walk tables variables version place ≡ Ok (schema, bound) → TableIs version schema
 
   abbrev CauseOfScalar : Place → Scalar → Refusal → Type 0
-  CauseOfScalar place scalar refusal = OfScalar tables variables place scalar refusal ⊎ ((y : Expr) × IsScalarValue scalar y × HasCause tables variables place y refusal)
+  CauseOfScalar place scalar refusal = OfScalar tables variables place scalar refusal ⊎ ((y : Expr) × Contains scalar.version.values y × HasCause tables variables place y refusal)
 
   abbrev OfSelect : Scalar → Type 0
   OfSelect scalar = (place : Place) → Caused (CauseOfScalar place scalar) (scalar_walk tables variables scalar place)
 
   record OfTerm (term : Term) : Type 0 where
-    value : Expr
-    is : IsTermValue term value
-    walks : (term_walk tables variables term).1 ≡ walk tables variables value
-    known : OfExpr value
+    walks : (term_walk tables variables term).1 ≡ walk tables variables term.value
+    known : OfExpr term.value
 
   -- ---- what an operand refuses, its form does
 
@@ -123,9 +122,9 @@ module _ (tables : List Catalogued) (variables : List Variable) where
       all_map (λ t. Fine (term_walk tables variables t)) Fine (term_walk tables variables) (λ t it. it) terms
       (all_map (λ p. Contains terms p.0) (λ t. Fine (term_walk tables variables t)) (λ p. p.0)
       (λ p is. record {
-        value = p.1.value;
+        value = p.0.value;
         is = p.1.walks;
-        fine = (inherit x place p.1.value _ (inr (p.0, is, p.1.is)) (p.1.known place), λ no. own x place TypeClash (inr (p.0, is, (p.1.value, p.1.is, no))));
+        fine = (inherit x place p.0.value _ (inr (p.0, is, refl)) (p.1.known place), λ no. own x place TypeClash (inr (p.0, is, no)));
       }) ps (each_is_in (λ (p : Known OfTerm). p.0) ps))
 
   form_by : (y : Form OfExpr OfRowVersion OfSelect OfTerm) (place : Place)
@@ -190,49 +189,49 @@ module _ (tables : List Catalogued) (variables : List Variable) where
   version_by : (y : VersionForm OfExpr OfRowVersion OfSelect OfTerm) (place : Place)
       → Caused (CauseOfVersion place (roll-RowVersion (version_parts OfExpr OfRowVersion OfSelect OfTerm y))) (version_form_walk tables variables (version_parts OfExpr OfRowVersion OfSelect OfTerm y) place)
   version_by y place =
-      let x : of.VersionForm = version_parts OfExpr OfRowVersion OfSelect OfTerm y in
+      let x : RowVersion-F Expr RowVersion Scalar Term = version_parts OfExpr OfRowVersion OfSelect OfTerm y in
       let Cause : Refusal → Type 0 = CauseOfVersion place (roll-RowVersion x) in
       let values : List Expr = map (λ (p : Known OfExpr). p.0) y.values in
       let known : AllByRecursion (λ z. Caused Cause (walk tables variables z place)) values =
       all_map (λ p. Contains values p.0) (λ z. Caused Cause (walk tables variables z place)) (λ p. p.0)
-      (λ p is. weaker (walk tables variables p.0 place) (λ refusal cause. inr (p.0, (x, refl, is), cause)) (p.1 place)) y.values (each_is_in (λ (p : Known OfExpr). p.0) y.values) in
+      (λ p is. weaker (walk tables variables p.0 place) (λ refusal cause. inr (p.0, is, cause)) (p.1 place)) y.values (each_is_in (λ (p : Known OfExpr). p.0) y.values) in
       after_caused (tracked_table tables y.table) _ (tracked_by tables y.table (inl tt) (inl tt))
       (λ table found. then_caused _ _ (version_of_by tables variables place table.schema y.columns values known (λ wanted got. inl tt)
-      (λ name no. inl (x, refl, (table, tracked_is tables y.table table found, no)))
-      (λ at z name column stands name_is column_is no. inl (x, refl, (table, tracked_is tables y.table table found, (at, z, name, column, stands, name_is, column_is, no))))) (λ bound. ok_caused _))
+      (λ name no. inl (table, tracked_is tables y.table table found, no))
+      (λ at z name column stands name_is column_is no. inl (table, tracked_is tables y.table table found, (at, z, name, column, stands, name_is, column_is, no)))) (λ bound. ok_caused _))
 
   -- the schema to which it comes is that of the table
   version_table : (y : VersionForm OfExpr OfRowVersion OfSelect OfTerm) (place : Place) (schema : Schema) (bound : BoundRowVersion)
       → version_form_walk tables variables (version_parts OfExpr OfRowVersion OfSelect OfTerm y) place ≡ Ok (schema, bound) → TableIs (roll-RowVersion (version_parts OfExpr OfRowVersion OfSelect OfTerm y)) schema
   version_table y place schema bound e =
-      let x : of.VersionForm = version_parts OfExpr OfRowVersion OfSelect OfTerm y in
+      let x : RowVersion-F Expr RowVersion Scalar Term = version_parts OfExpr OfRowVersion OfSelect OfTerm y in
       let values : List Walk = map (walk tables variables) (map (λ (p : Known OfExpr). p.0) y.values) in
       let first = steps (tracked_table tables y.table) (λ table. version_of table.schema y.columns values place >>= (λ bound. Ok (table.schema, bound))) (schema, bound) e in
       let second = steps (version_of first.came.schema y.columns values place) (λ bound. Ok (first.came.schema, bound)) (schema, bound) first.goes in
       let same : first.came.schema ≡ schema = ap (λ (p : Schema × BoundRowVersion). p.0) (same_Ok (first.came.schema, second.came) (schema, bound) second.goes) in
-      (x, refl, (first.came, tracked_is tables y.table first.came first.is, same))
+      (first.came, tracked_is tables y.table first.came first.is, same)
 
   -- ---- a SELECT in brackets
 
-  version_own : (x : of.ScalarForm) (place : Place) (refusal : Refusal) → OfVersion tables variables place x.version refusal → OfScalar tables variables place (roll-Scalar x) refusal
-  version_own x place (NoColumn name) cause = (x, refl, inr cause)
+  version_own : (x : Scalar-F Expr RowVersion Scalar Term) (place : Place) (refusal : Refusal) → OfVersion tables variables place x.version refusal → OfScalar tables variables place (roll-Scalar x) refusal
+  version_own x place (NoColumn name) cause = inr cause
   version_own x place (Ambiguous name) cause = absurd cause
-  version_own x place TypeClash cause = (x, refl, cause)
+  version_own x place TypeClash cause = cause
   version_own x place _ cause = tt
 
   select_by : (y : ScalarForm OfExpr OfRowVersion OfSelect OfTerm) (place : Place)
       → Caused (CauseOfScalar place (roll-Scalar (scalar_parts OfExpr OfRowVersion OfSelect OfTerm y))) (scalar_form_walk tables variables (scalar_parts OfExpr OfRowVersion OfSelect OfTerm y) place)
   select_by y place =
-      let x : of.ScalarForm = scalar_parts OfExpr OfRowVersion OfSelect OfTerm y in
+      let x : Scalar-F Expr RowVersion Scalar Term = scalar_parts OfExpr OfRowVersion OfSelect OfTerm y in
       after_caused (version_walk tables variables y.version.0 place) _
       (weaker (version_walk tables variables y.version.0 place) (λ refusal cause. elim cause [
         | inl here ↦ inl (version_own x place refusal here)
-        | inr under ↦ inr (under.0, (x, refl, under.1), under.2)
+        | inr under ↦ inr under
       ]) (y.version.1.caused place))
       (λ version comes.
       let is : TableIs y.version.0 version.0 = y.version.1.table place version.0 version.1 comes in
-      scalar_column_by version.0 y.source y.alias y.column version.1 (λ other. inl (x, refl, inl (inl (refl, other))))
-      (λ none. inl (x, refl, inl (inr (refl, (is.0, is.1, (is.2.0, is.2.1, subst (λ (s : Schema). IsNotShown s y.column) (sym is.2.2) none)))))))
+      scalar_column_by version.0 y.source y.alias y.column version.1 (λ other. inl (inl (inl (refl, other))))
+      (λ none. inl (inl (inr (refl, (is.0, is.1, subst (λ (s : Schema). IsNotShown s y.column) (sym is.2) none))))))
 
   -- ---- one layer, and the whole
 
@@ -243,7 +242,7 @@ module _ (tables : List Catalogued) (variables : List Variable) where
 
   version_case : (y : VersionForm OfExpr OfRowVersion OfSelect OfTerm) → OfRowVersion (roll-RowVersion (version_parts OfExpr OfRowVersion OfSelect OfTerm y))
   version_case y =
-      let x : of.VersionForm = version_parts OfExpr OfRowVersion OfSelect OfTerm y in
+      let x : RowVersion-F Expr RowVersion Scalar Term = version_parts OfExpr OfRowVersion OfSelect OfTerm y in
       record {
         caused = λ place. subst (λ w. Caused (CauseOfVersion place (roll-RowVersion x)) (w place)) (sym (version_walked tables variables x)) (version_by y place);
         table = λ place schema bound e. version_table y place schema bound (sym (ap (λ w. w place) (version_walked tables variables x)) ∙ e);
@@ -251,13 +250,13 @@ module _ (tables : List Catalogued) (variables : List Variable) where
 
   scalar_case : (y : ScalarForm OfExpr OfRowVersion OfSelect OfTerm) → OfSelect (roll-Scalar (scalar_parts OfExpr OfRowVersion OfSelect OfTerm y))
   scalar_case y place =
-      let x : of.ScalarForm = scalar_parts OfExpr OfRowVersion OfSelect OfTerm y in
+      let x : Scalar-F Expr RowVersion Scalar Term = scalar_parts OfExpr OfRowVersion OfSelect OfTerm y in
       subst (λ (w : Walk). Caused (CauseOfScalar place (roll-Scalar x)) (w place)) (sym (scalar_walked tables variables x)) (select_by y place)
 
   term_case : (y : TermForm OfExpr OfRowVersion OfSelect OfTerm) → OfTerm (roll-Term (term_parts OfExpr OfRowVersion OfSelect OfTerm y))
   term_case y =
-      let x : of.TermForm = term_parts OfExpr OfRowVersion OfSelect OfTerm y in
-      record { value = y.value.0; is = (x, refl, refl); walks = ap (λ (w : TermWalk). w.1) (term_walked tables variables x); known = y.value.1 }
+      let x : Term-F Expr RowVersion Scalar Term = term_parts OfExpr OfRowVersion OfSelect OfTerm y in
+      record { walks = ap (λ (w : TermWalk). w.1) (term_walked tables variables x); known = y.value.1 }
 
   every : (x : Expr) → OfExpr x
   every = by_forms OfExpr OfRowVersion OfSelect OfTerm expr_case version_case scalar_case term_case

@@ -6,8 +6,8 @@ use Rattle.ct_types.specs.declared.catalogue.Catalogued.{Catalogued}
 use Rattle.ct_types.specs.declared.catalogue.Variable.{Variable}
 use Rattle.ct_types.specs.declared.expr.Expr.{Expr, roll-Expr}
 use Rattle.ct_types.specs.declared.expr.Expr.TheOpen as e
-use Rattle.ct_types.specs.declared.expr.RowVersion.{RowVersion, roll-RowVersion}
-use Rattle.ct_types.specs.declared.expr.Scalar.{Scalar, roll-Scalar}
+use Rattle.ct_types.specs.declared.expr.RowVersion.{RowVersion}
+use Rattle.ct_types.specs.declared.expr.Scalar.{Scalar}
 use Rattle.ct_types.specs.declared.expr.Term.{Term}
 use Rattle.ct_types.specs.declared.refusal.Refusal.{Refusal}
 use Rattle.ct_types.specs.declared.refusal.Refusal.TheVariants.{NoColumn, Ambiguous, TypeClash}
@@ -23,7 +23,24 @@ use Rattle.ct_bind_expr.specs.Places.{is_a, go_together}
 use Rattle.ct_bind_expr.specs.Versions.{key_column, key_columns, kind_of_column}
 use Rattle.ct_bind_expr.specs.Walk.{walk}
 use Rattle.ct_bind_place_laws.specs.Columns.{IsNoColumn, IsAmbiguous, IsNotOfKey, IsNotShown}
-use Rattle.ct_bind_place_laws.specs.Parts.{Form, VersionForm, ScalarForm, IsTermValue, HasPart}
+use Rattle.ct_bind_place_laws.specs.Parts.{Form, HasPart}
+
+-- ---- CHANGETABLE(VERSION ..)
+
+module _ (tables : List Catalogued) where
+  -- the table of its name
+  abbrev pub IsTable : RowVersion → Catalogued → Type 0
+  IsTable version table = table_named tables (table_name version.table) ≡ Some table
+
+  -- the list of columns is not that of the key
+  abbrev pub ListsWrongly : RowVersion → List ℕ → Type 0
+  ListsWrongly version name = (table : Catalogued) × IsTable version table × IsNotOfKey (key_columns table.schema) version.columns name
+
+  -- a SELECT in brackets names another source than its own, or a column that this does not show
+  abbrev pub NamesWrongly : Scalar → List ℕ → Type 0
+  NamesWrongly scalar name =
+      ((name ≡ scalar.source) × (same scalar.source scalar.alias ≡ false))
+      ⊎ ((name ≡ scalar.column) × ((table : Catalogued) × IsTable scalar.version table × IsNotShown table.schema scalar.column))
 
 module _ (tables : List Catalogued) (variables : List Variable) (place : Place) where
   -- ---- kinds
@@ -46,41 +63,27 @@ module _ (tables : List Catalogued) (variables : List Variable) (place : Place) 
 
   -- one of the operands of a sum after the first
   abbrev pub SomeTermIsNoOperand : List Term → Type 0
-  SomeTermIsNoOperand terms = (term : Term) × Contains terms term × ((y : Expr) × IsTermValue term y × IsNoOperand Number y)
+  SomeTermIsNoOperand terms = (term : Term) × Contains terms term × IsNoOperand Number term.value
 
-  -- ---- CHANGETABLE(VERSION ..)
-
-  -- a table that has the name
-  abbrev pub IsTable : VersionForm → Catalogued → Type 0
-  IsTable form table = table_named tables (table_name form.table) ≡ Some table
-
-  -- the list of columns is not that of the key
-  abbrev pub ListsWrongly : VersionForm → List ℕ → Type 0
-  ListsWrongly form name = (table : Catalogued) × IsTable form table × IsNotOfKey (key_columns table.schema) form.columns name
+  -- ---- what CHANGETABLE(VERSION ..) refuses
 
   -- a value of the tuple is not of the kind of the column that stands at its place in the list
-  abbrev pub IsNoKeyValue : VersionForm → Type 0
-  IsNoKeyValue form =
-      (table : Catalogued) × IsTable form table
+  abbrev pub IsNoKeyValue : RowVersion → Type 0
+  IsNoKeyValue version =
+      (table : Catalogued) × IsTable tables version table
       × ((at : ℕ) × (y : Expr) × (name : List ℕ) × (column : Column)
-      × (slice_get form.values at ≡ Some y) × (slice_get form.columns at ≡ Some name) × (key_column (key_columns table.schema) name ≡ Some column) × IsNoOperand (kind_of_column column) y)
+      × (slice_get version.values at ≡ Some y) × (slice_get version.columns at ≡ Some name) × (key_column (key_columns table.schema) name ≡ Some column) × IsNoOperand (kind_of_column column) y)
 
   abbrev pub OfVersion : RowVersion → Refusal → Type 0
-  OfVersion version (NoColumn name) = (form : VersionForm) × (version ≡ roll-RowVersion form) × ListsWrongly form name
+  OfVersion version (NoColumn name) = ListsWrongly tables version name
   OfVersion version (Ambiguous name) = ⊥
-  OfVersion version TypeClash = (form : VersionForm) × (version ≡ roll-RowVersion form) × IsNoKeyValue form
+  OfVersion version TypeClash = IsNoKeyValue version
   OfVersion version _ = Unit {0}
 
-  -- a SELECT in brackets names another source than its own, or a column that is not shown
-  abbrev pub NamesWrongly : ScalarForm → List ℕ → Type 0
-  NamesWrongly form name =
-      ((name ≡ form.source) × (same form.source form.alias ≡ false))
-      ⊎ ((name ≡ form.column) × ((version : VersionForm) × (form.version ≡ roll-RowVersion version) × ((table : Catalogued) × IsTable version table × IsNotShown table.schema form.column)))
-
   abbrev pub OfScalar : Scalar → Refusal → Type 0
-  OfScalar scalar (NoColumn name) = (form : ScalarForm) × (scalar ≡ roll-Scalar form) × (NamesWrongly form name ⊎ OfVersion form.version (NoColumn name))
+  OfScalar scalar (NoColumn name) = NamesWrongly tables scalar name ⊎ ListsWrongly tables scalar.version name
   OfScalar scalar (Ambiguous name) = ⊥
-  OfScalar scalar TypeClash = (form : ScalarForm) × (scalar ≡ roll-Scalar form) × OfVersion form.version TypeClash
+  OfScalar scalar TypeClash = IsNoKeyValue scalar.version
   OfScalar scalar _ = Unit {0}
 
   -- ---- a form

@@ -3,35 +3,14 @@ use Rattle.std.specs.Prelude.{◌≡◌, ◌⊎◌}
 use Rattle.std.specs.List.{Contains}
 use Rattle.ct_types.specs.declared.expr.Expr.{Expr, roll-Expr}
 use Rattle.ct_types.specs.declared.expr.Expr.TheOpen as e
-use Rattle.ct_types.specs.declared.expr.Expr.TheOpen.{Expr-F, RowVersion-F, Scalar-F, Term-F}
-use Rattle.ct_types.specs.declared.expr.RowVersion.{RowVersion, roll-RowVersion}
-use Rattle.ct_types.specs.declared.expr.Scalar.{Scalar, roll-Scalar}
-use Rattle.ct_types.specs.declared.expr.Term.{Term, roll-Term}
+use Rattle.ct_types.specs.declared.expr.Expr.TheOpen.{Expr-F}
+use Rattle.ct_types.specs.declared.expr.RowVersion.{RowVersion}
+use Rattle.ct_types.specs.declared.expr.Scalar.{Scalar}
+use Rattle.ct_types.specs.declared.expr.Term.{Term}
 
 -- the form of an expression, with its operands
 abbrev pub Form : Type 0
 Form = Expr-F Expr RowVersion Scalar Term
-
-abbrev pub VersionForm : Type 0
-VersionForm = RowVersion-F Expr RowVersion Scalar Term
-
-abbrev pub ScalarForm : Type 0
-ScalarForm = Scalar-F Expr RowVersion Scalar Term
-
-abbrev pub TermForm : Type 0
-TermForm = Term-F Expr RowVersion Scalar Term
-
--- a value of the tuple of CHANGETABLE(VERSION ..)
-abbrev pub IsVersionValue : RowVersion → Expr → Type 0
-IsVersionValue version y = (form : VersionForm) × (version ≡ roll-RowVersion form) × Contains form.values y
-
--- one of a SELECT in brackets
-abbrev pub IsScalarValue : Scalar → Expr → Type 0
-IsScalarValue scalar y = (form : ScalarForm) × (scalar ≡ roll-Scalar form) × IsVersionValue form.version y
-
--- the value that is added or taken
-abbrev pub IsTermValue : Term → Expr → Type 0
-IsTermValue term y = (form : TermForm) × (term ≡ roll-Term form) × (y ≡ form.value)
 
 -- an operand of a form
 abbrev pub IsOperand : Form → Expr → Type 0
@@ -40,10 +19,10 @@ IsOperand (e.IsColumnInMask column mask) y = (y ≡ column) ⊎ (y ≡ mask)
 IsOperand (e.ObjectId name) y = y ≡ name
 IsOperand (e.ColumnProperty table column name) y = (y ≡ table) ⊎ ((y ≡ column) ⊎ (y ≡ name))
 IsOperand (e.IfNull value instead) y = (y ≡ value) ⊎ (y ≡ instead)
-IsOperand (e.Scalar scalar) y = IsScalarValue scalar y
+IsOperand (e.Scalar scalar) y = Contains scalar.version.values y
 IsOperand (e.Negative value) y = y ≡ value
 IsOperand (e.Product factors) y = Contains factors y
-IsOperand (e.Sum first more) y = (y ≡ first) ⊎ ((term : Term) × Contains more term × IsTermValue term y)
+IsOperand (e.Sum first more) y = (y ≡ first) ⊎ ((term : Term) × Contains more term × (y ≡ term.value))
 IsOperand (e.Compare operator left right) y = (y ≡ left) ⊎ (y ≡ right)
 IsOperand (e.IsNull value) y = y ≡ value
 IsOperand (e.IsNotNull value) y = y ≡ value

@@ -3,4 +3,4 @@
 
 mod laws;
 
-pub use laws::expressions_have_causes;
+pub use laws::{expressions_have_causes, statements_have_causes};

@@ -19,7 +19,7 @@ use Rattle.ct_locks.specs.Holders.{Lock, holds, locks_of, place_in, IsFree, IsLe
 use Rattle.ct_locks.specs.declared.answers.Holder.{Holder}
 use Rattle.ct_locks.proofs.Kept.{any_map, position_map}
 use Rattle.ct_session.specs.Sessions.{SessionState}
-use Rattle.ct_machine.specs.Holding.{blocked_keys, blocked_table, first_key, holds_key, least_other}
+use Rattle.ct_state.specs.Holding.{blocked_keys, blocked_table, first_key, holds_key, least_other}
 use Rattle.ct_blocking.specs.Locked.{AreLocked, refusal_at}
 use Rattle.ct_blocking.proofs.Least.{no_other, one_other}
 

@@ -1,7 +1,7 @@
 -- The least other session of which a test is true.
 use Rattle.std.proofs.Common.{◌≡◌, ◌≢◌, ℕ, zero, suc, ◌+◌, ◌<◌, ◌==◌, ◌&&◌, Bool, true, false, not, cond, None, Some, refl, ap, ap₂, ◌∙◌, arith, eq-eqb, ne_eqb}
 use Rattle.ct_session.specs.Sessions.{SessionState}
-use Rattle.ct_machine.specs.Holding.{least_from, least_other}
+use Rattle.ct_state.specs.Holding.{least_from, least_other}
 
 least_none : (test : ℕ → Bool) (number count : ℕ) → ((other : ℕ) → test other ≡ false) → least_from test number count ≡ None
 least_none test number zero none = refl

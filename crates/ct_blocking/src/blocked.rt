@@ -1,6 +1,6 @@
 ghost use Rattle.std.specs.Prelude.{◌≡◌, ℕ, IfOk};
 ghost use Rattle.ct_blocking.specs.Locked.{AreLocked, refusal_at};
-ghost use Rattle.ct_machine.specs.Holding as spec;
+ghost use Rattle.ct_state.specs.Holding as spec;
 ghost use Rattle.ct_session.specs.Sessions.{SessionState};
 
 use ct_locks::{Holder, Locks};

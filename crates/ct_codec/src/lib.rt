@@ -5,6 +5,7 @@
 
 mod entry;
 mod fault;
+mod fitting;
 mod input;
 mod law;
 mod output;
@@ -20,4 +21,4 @@ use input::Input;
 pub use law::{
     entry_begins_no_other, entry_is_exact, entry_reads_back, piece_begins_no_other, piece_is_exact,
 };
-pub use piece::{get_piece, put_piece};
+pub use piece::{get_piece, put_any_piece, put_piece};

@@ -3,6 +3,7 @@ ghost use Rattle.ct_codec.specs.EntryReaders as readers;
 ghost use Rattle.ct_codec.specs.Readers.{Reads, Gives, whole};
 ghost use Rattle.ct_codec.specs.Spellings.{piece_byte, spell_payload, PayloadFits, spell_piece, PieceFits, spell_kept, KeptFits};
 
+use crate::fitting::payload_fits;
 use crate::input::at_end;
 use crate::output::{put_bytes, put_u8, put_u32, put_u64};
 use crate::schemas::{get_keep, get_schema, get_tracked, put_keep, put_schema, put_tracked};
@@ -156,6 +157,25 @@ pub fn put_piece(alloc: Global, piece: &Piece) -> Result<Bin, Memory>
     put_u32(&mut out, payload.len() as u32)?;
     put_bytes(&mut out, payload.as_slice())?;
     Ok(Bin::from_vec(out))
+}
+
+/// Appends the bytes of a piece of which it is not known that it can be spelled. Where it cannot, that is want of memory: of the
+/// pieces of a valid database only those cannot whose payload has 2^32 bytes or more.
+pub fn put_any_piece(alloc: Global, out: &mut Vec<u8>, piece: &Piece) -> Result<(), Memory>
+    ensures spelled { OnOk result (out.new.items ≡ out.old.items ++ spell_piece piece.now) }
+    ensures fits { OnOk result (PieceFits piece.now) }
+{
+    if !payload_fits(piece) {
+        return Err(Memory);
+    }
+    let mut payload = Vec::new(alloc);
+    put_payload(&mut payload, piece)?;
+    if payload.len() > 4_294_967_295 {
+        return Err(Memory);
+    }
+    put_u8(out, kind_of(piece))?;
+    put_u32(out, payload.len() as u32)?;
+    put_bytes(out, payload.as_slice())
 }
 
 /// The piece with whose spelling the bytes begin, and how long that spelling is. `NotCanonical` comes exactly where they

@@ -7,8 +7,8 @@ use Rattle.ct_database.specs.Waiting.{AreStoredIn}
 use Rattle.ct_model.specs.declared.db.Db.{Db}
 use Rattle.ct_model.specs.Apply.{apply}
 use Rattle.ct_session.specs.Sessions.{SessionState, ended}
-use Rattle.ct_machine.specs.Machine.{Machine, with_session}
-use Rattle.ct_machine.specs.Step.{committed, entry_of, has_number, has_room, next_xdes, viewed}
+use Rattle.ct_state.specs.Machine.{Machine, with_session, next_xdes}
+use Rattle.ct_machine.specs.Step.{committed, entry_of, has_number, has_room, viewed}
 use Rattle.ct_sessions.specs.Changes.{HasState}
 use Rattle.ct_sessions.specs.Holds.{Holds, with_entry}
 use Rattle.ct_sessions.specs.Seats.{SessionsState, state_in}

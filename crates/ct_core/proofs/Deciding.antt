@@ -6,10 +6,10 @@ use Rattle.ct_types.specs.declared.refusal.Refusal.{Refusal}
 use Rattle.ct_model.specs.declared.db.Table.{Table}
 use Rattle.ct_machine.specs.declared.decision.Decision.{Decision}
 use Rattle.ct_machine.specs.declared.decision.Decision.TheVariants.{Refuses, Aborts}
-use Rattle.ct_machine.specs.Conflicts.{conflict}
+use Rattle.ct_state.specs.Conflicts.{conflict}
 use Rattle.ct_machine.specs.Decide.{fitted, unless, without_duplicates}
-use Rattle.ct_machine.specs.Holding.{blocked_keys}
-use Rattle.ct_machine.specs.Machine.{Machine}
+use Rattle.ct_state.specs.Holding.{blocked_keys}
+use Rattle.ct_state.specs.Machine.{Machine}
 use Rattle.ct_write.specs.Duplicates.{duplicate}
 use Rattle.ct_core.specs.Steps.{decided_or, kept_out}
 

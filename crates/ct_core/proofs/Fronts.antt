@@ -12,7 +12,7 @@ use Rattle.ct_model.specs.declared.db.Table.{Table}
 use Rattle.ct_model.specs.Apply.{apply, raised, replay, tables_after, tracked_as, truncated, written}
 use Rattle.ct_model.specs.Tables.{catalogued}
 use Rattle.ct_model.specs.Valid.{AreNumbered}
-use Rattle.ct_machine.specs.Machine.{Machine, db_at}
+use Rattle.ct_state.specs.Machine.{Machine, db_at}
 use Rattle.ct_sessions.specs.declared.own.Own.{Own}
 use Rattle.ct_sessions.specs.Owns.{IsShareOf, own_or}
 use Rattle.ct_sessions.specs.Seats.{own_in}

@@ -1,7 +1,7 @@
 -- A row that can be stored in a table can be stored in it for ever: no entry changes what a table is by its definition.
 use Rattle.std.proofs.Common.{◌≡◌, ℕ, ◌==◌, Bool, true, false, cond, List, [], ◌∷◌, ◌++◌, map, fold, take, drop, take-append-drop, Option, None, Some, refl, sym, ap, subst, ◌∙◌}
 use Rattle.std.specs.List.{AllByRecursion}
-use Rattle.std.specs.Option.{IsSomeAnd}
+use Rattle.std.specs.Option.{IfSome, IsSomeAnd}
 use Rattle.ct_types.specs.declared.entry.Act.{Act}
 use Rattle.ct_types.specs.declared.entry.Act.TheVariants.{Commit, Define, Truncate, Enable, Disable, Database, Raise}
 use Rattle.ct_types.specs.declared.entry.Entry.{Entry}
@@ -13,8 +13,10 @@ use Rattle.ct_model.specs.declared.db.Table.{Table}
 use Rattle.ct_model.specs.Apply.{apply, raised, replay, tables_after, tracked_as, truncated, written}
 use Rattle.ct_model.specs.Tables.{table_of}
 use Rattle.ct_model.proofs.Members.{all_weaken}
-use Rattle.ct_database.specs.Storable.{IsRowStorable}
+use Rattle.ct_database.specs.Storable.{IsRowStorable, IsWriteStorable}
 use Rattle.ct_database.specs.Waiting.{AreStoredIn, IsStoredIn}
+use Rattle.ct_types.specs.declared.reply.Reply.TheVariants.{Done}
+use Rattle.ct_core.specs.Range.{CommitIsKept}
 use Rattle.ct_core.proofs.Narrow.{raised_keeps, tracked_keeps, truncated_keeps, written_keeps}
 
 -- ---- tables that keep their definitions
@@ -103,3 +105,15 @@ stored_newest first past at version put writes =
 pub stored_both : (tables : List Table) (writes more : List Write) → AreStoredIn tables writes → AreStoredIn tables more → AreStoredIn tables (writes ++ more)
 stored_both tables [] more front back = back
 stored_both tables (write ∷ writes) more front back = (front.0, stored_both tables writes more front.1 back)
+
+-- ---- what can be stored is storable
+
+storable_one : (found : Option Table) (write : Write) → IsSomeAnd found (λ it. IsRowStorable it.schema write.key write.row) → IfSome found (λ it. IsRowStorable it.schema write.key write.row)
+storable_one None write here = tt
+storable_one (Some table) write here = here
+
+all_storable_in : (tables : List Table) (writes : List Write) → AreStoredIn tables writes → AllByRecursion (IsWriteStorable tables) writes
+all_storable_in tables = all_weaken (IsStoredIn tables) (IsWriteStorable tables) (λ write here. storable_one (table_of tables write.table) write here)
+
+pub commit_kept : (db : Db) (writes : List Write) → AreStoredIn db.tables writes → CommitIsKept db (Commit writes) Done
+commit_kept db writes stored = record { kept = record { narrow = tt; storable = all_storable_in db.tables writes stored }; told = refl }

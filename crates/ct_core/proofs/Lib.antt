@@ -12,3 +12,4 @@ pub mod Worlds
 pub mod Viewing
 pub mod Pending
 pub mod Fronts
+pub mod Ending

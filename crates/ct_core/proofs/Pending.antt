@@ -6,8 +6,8 @@ use Rattle.ct_types.specs.declared.entry.Write.{Write}
 use Rattle.ct_database.specs.Waiting.{AreStoredIn}
 use Rattle.ct_model.specs.declared.db.Db.{Db}
 use Rattle.ct_session.specs.Sessions.{SessionState}
-use Rattle.ct_machine.specs.Machine.{Machine, db_at, with_session}
-use Rattle.ct_machine.specs.Step.{next_xdes, viewed, with_pending}
+use Rattle.ct_state.specs.Machine.{Machine, db_at, with_session, next_xdes}
+use Rattle.ct_machine.specs.Step.{viewed, with_pending}
 use Rattle.ct_sessions.specs.Changes.{Turns, waiting}
 use Rattle.ct_sessions.specs.declared.own.Own.{Own}
 use Rattle.ct_sessions.specs.Owns.{IsShareOf, own_or}

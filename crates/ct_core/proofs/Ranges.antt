@@ -4,8 +4,8 @@ use Rattle.ct_types.specs.declared.entry.Act.{Act}
 use Rattle.ct_types.specs.declared.entry.Entry.{Entry}
 use Rattle.ct_model.specs.declared.db.Db.{Db}
 use Rattle.ct_model.specs.Apply.{apply}
-use Rattle.ct_machine.specs.Machine.{Machine}
-use Rattle.ct_machine.specs.Step.{entry_of, has_number, has_room, most_number, next_xdes, xdes_or}
+use Rattle.ct_state.specs.Machine.{Machine, next_xdes, xdes_or}
+use Rattle.ct_machine.specs.Step.{entry_of, has_number, has_room, most_number}
 use Rattle.ct_session.specs.Sessions.{SessionState, fresh}
 use Rattle.ct_core.specs.Range.{ActIsKept, HasTables}
 use Rattle.ct_core.proofs.Narrow.{tables_apply}

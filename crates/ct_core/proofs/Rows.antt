@@ -11,7 +11,7 @@ use Rattle.ct_types.specs.declared.bound.Join.TheVariants as join
 use Rattle.ct_types.specs.declared.value.Row.{Row}
 use Rattle.ct_types.specs.Answers.{Answer, ◌>>=◌, each}
 use Rattle.ct_machine.specs.Reads.{optional_rows, right_rows, shown_commit, source_rows, version_on}
-use Rattle.ct_machine.specs.Seen.{Seen}
+use Rattle.ct_state.specs.Seen.{Seen}
 use Rattle.ct_core.specs.Rows.{made_rows, made_right, chosen_rows, shown_committed}
 use Rattle.ct_database.specs.Commits.{committed}
 

@@ -6,14 +6,16 @@ use Rattle.ct_types.specs.declared.refusal.Refusal.TheVariants.{Exhausted}
 use Rattle.ct_types.specs.declared.reply.Reply.{Reply}
 use Rattle.ct_types.specs.declared.reply.Reply.TheVariants.{Refused}
 use Rattle.ct_model.specs.declared.db.Db.{Db}
-use Rattle.ct_session.specs.Sessions.{SessionState}
+use Rattle.ct_types.specs.declared.entry.Act.{Act}
+use Rattle.ct_session.specs.Sessions.{SessionState, fresh}
 use Rattle.ct_machine.specs.declared.decision.Decision.{Decision}
 use Rattle.ct_machine.specs.declared.decision.Decision.TheVariants.{Refuses, Aborts, Answers, Commits, Pends, Begins, Ends, Isolates, Sets, Declares}
 use Rattle.ct_machine.specs.Decide.{decide}
-use Rattle.ct_machine.specs.Machine.{Machine}
-use Rattle.ct_machine.specs.Play.{after, is_memory}
-use Rattle.ct_machine.specs.Step.{decision_of, entry_of, has_room, machine_after, most_number, reply_of, settled, xdes_or}
-use Rattle.ct_core.specs.Range.{DecisionIsKept}
+use Rattle.ct_state.specs.Machine.{Machine, xdes_or}
+use Rattle.ct_machine.specs.Play.{after}
+use Rattle.ct_state.specs.Replies.{is_memory}
+use Rattle.ct_machine.specs.Step.{decision_of, entry_of, has_room, machine_after, most_number, reply_of, settled}
+use Rattle.ct_core.specs.Range.{CommitIsKept, DecisionIsKept}
 use Rattle.ct_core.specs.Settling.{IsSettled, IsTaken, StaysFor}
 use Rattle.ct_core.specs.Stands.{CoreState, Stands}
 
@@ -48,7 +50,8 @@ module _ (newest db : Db) (state : SessionState) (m : Machine) (s : ℕ) (what :
   told (Declares name kind value) kept = refl
 
 module _ {D : Type 0} where
-  taken : (newest db : Db) (state : SessionState) (core' : CoreState D) (m : Machine) (s : ℕ) (what : Command) (d : Decision) (shown : Reply)
+  -- one decision
+  pub taken : (newest db : Db) (state : SessionState) (core' : CoreState D) (m : Machine) (s : ℕ) (what : Command) (d : Decision) (shown : Reply)
       → d ≡ decide m s what → DecisionIsKept newest db state d → IsSettled m s what d shown core' → IsTaken m s what shown core'
   taken newest db state core' m s what d shown is kept settles =
       let own : settled m (m.sessions s) d ≡ decision_of m s what = ap (settled m (m.sessions s)) is in
@@ -74,3 +77,11 @@ module _ {D : Type 0} where
       → IfOk result (λ shown. (m : Machine) → Stands core m → IsSettled m s what d shown core')
   settled_if core core' s what d came (Ok shown) is settles = λ m stands. subst (λ (it : Decision). IsSettled m s what it shown core') (sym is) (settles m what stands)
   settled_if core core' s what d came (Err memory) is settles = tt
+
+  -- a commit that is decided is taken, where memory sufficed
+  pub committed_if : (core core' : CoreState D) (s : ℕ) (what : Command) (act : Act) (reply : Reply) → CommitIsKept core.db act reply → (result : Result Reply Memory)
+      → ((m : Machine) → Stands core m → Commits act reply ≡ decide m s what)
+      → IfOk result (λ shown. (m : Machine) (any : Command) → Stands core m → IsSettled m s any (Commits act reply) shown core')
+      → IfOk result (λ shown. (m : Machine) → Stands core m → IsTaken m s what shown core')
+  committed_if core core' s what act reply kept (Ok shown) is settles = λ m stands. taken core.db core.db fresh core' m s what (Commits act reply) shown (is m stands) kept (settles m what stands)
+  committed_if core core' s what act reply kept (Err memory) is settles = tt

@@ -25,7 +25,7 @@ use Rattle.ct_bind.specs.Binding.{kind_of_name, truncate, value_of, set_variable
 use Rattle.ct_bind.specs.Queries.{select}
 use Rattle.ct_bind.specs.Writes.{write_of}
 use Rattle.ct_machine.specs.Reads.{catalogue}
-use Rattle.ct_machine.specs.Seen.{Seen}
+use Rattle.ct_state.specs.Seen.{Seen}
 use Rattle.ct_session.specs.Sessions.{is_open}
 use Rattle.ct_session.specs.declared.tran.Tran.{Tran}
 use Rattle.ct_session.specs.declared.tran.Tran.TheVariants as tran

@@ -10,8 +10,8 @@ use Rattle.ct_conflicts.specs.Later.{IsLater}
 use Rattle.ct_model.specs.declared.db.Table.{Table}
 use Rattle.ct_database.specs.Waiting.{AreStoredIn}
 use Rattle.ct_session.specs.Sessions.{SessionState}
-use Rattle.ct_machine.specs.Machine.{Machine, with_session}
-use Rattle.ct_machine.specs.Seen.{takes_view, viewing, with_writes}
+use Rattle.ct_state.specs.Machine.{Machine, with_session}
+use Rattle.ct_state.specs.Seen.{takes_view, viewing, with_writes}
 use Rattle.ct_machine.specs.Step.{viewed}
 use Rattle.ct_sessions.specs.Changes.{HasState}
 use Rattle.ct_sessions.specs.Holds.{Holds}

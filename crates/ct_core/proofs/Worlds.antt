@@ -14,7 +14,7 @@ use Rattle.ct_expr.specs.Environment.{Environment}
 use Rattle.ct_expr.specs.Meaning.{on, row_version, scene, value}
 use Rattle.ct_write.specs.Rows.{no_row}
 use Rattle.ct_machine.specs.Reads.{changes_rows, env_of, shown, shown_version, since_of, version_on, world_of}
-use Rattle.ct_machine.specs.Seen.{Seen}
+use Rattle.ct_state.specs.Seen.{Seen}
 
 pub value_of_none : (seen : Seen) (env : Environment) (row : Row) (e : BoundExpr) → env ≡ env_of seen → row ≡ record { 0 = [] }
     → value (scene row env (last_version seen.db)) e ≡ value (on (world_of seen) no_row) e

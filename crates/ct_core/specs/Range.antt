@@ -17,7 +17,7 @@ use Rattle.ct_sessions.specs.Seats.{SessionsState, state_in}
 use Rattle.ct_session.specs.declared.tran.Tran.TheVariants as tran
 use Rattle.ct_machine.specs.declared.decision.Decision.{Decision}
 use Rattle.ct_machine.specs.declared.decision.Decision.TheVariants.{Refuses, Aborts, Answers, Commits, Pends, Begins, Ends, Isolates, Sets, Declares}
-use Rattle.ct_machine.specs.Play.{is_memory}
+use Rattle.ct_state.specs.Replies.{is_memory}
 use Rattle.ct_machine.specs.Reads.{catalogue}
 
 -- each table has at most 64 columns, and the ids of the tables count from 1

@@ -11,7 +11,7 @@ use Rattle.ct_model.specs.declared.db.Db.{Db}
 use Rattle.ct_model.specs.Tables.{table_of}
 use Rattle.ct_types.specs.Answers.{Answer, each}
 use Rattle.ct_machine.specs.Reads.{rows_of, source_rows, version_on}
-use Rattle.ct_machine.specs.Seen.{Seen}
+use Rattle.ct_state.specs.Seen.{Seen}
 
 -- the rows that are made for a source; those of a table are lent
 abbrev pub made_rows : Seen → Option BoundSource → Answer (List Row)

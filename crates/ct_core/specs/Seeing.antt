@@ -5,9 +5,9 @@ use Rattle.ct_expr.specs.Environment.{Environment}
 use Rattle.ct_model.specs.declared.db.Db.{Db}
 use Rattle.ct_sessions.specs.Holds.{Holds}
 use Rattle.ct_sessions.specs.Seats.{SessionsState}
-use Rattle.ct_machine.specs.Machine.{Machine}
+use Rattle.ct_state.specs.Machine.{Machine}
 use Rattle.ct_machine.specs.Reads.{env_of}
-use Rattle.ct_machine.specs.Seen.{Seen, seen_by}
+use Rattle.ct_state.specs.Seen.{Seen, seen_by}
 
 -- the database, and the variables of the environment
 abbrev pub seen_with : Db → Environment → Seen

@@ -4,9 +4,9 @@ use Rattle.ct_types.specs.declared.command.Command.{Command}
 use Rattle.ct_types.specs.declared.command.Command.TheVariants.{Sql}
 use Rattle.ct_types.specs.declared.reply.Reply.{Reply}
 use Rattle.ct_machine.specs.declared.decision.Decision.{Decision}
-use Rattle.ct_machine.specs.Machine.{Machine}
+use Rattle.ct_state.specs.Machine.{Machine}
 use Rattle.ct_machine.specs.Play.{after}
-use Rattle.ct_machine.specs.Seen.{takes_view}
+use Rattle.ct_state.specs.Seen.{takes_view}
 use Rattle.ct_machine.specs.Step.{machine_after, reply_of, settled, step}
 use Rattle.ct_core.specs.Stands.{CoreState, Stands}
 

@@ -3,7 +3,7 @@ use Rattle.std.specs.Prelude.{◌≡◌, ℕ}
 use Rattle.ct_model.specs.declared.db.Db.{Db}
 use Rattle.ct_sessions.specs.Holds.{Holds}
 use Rattle.ct_sessions.specs.Seats.{SessionsState}
-use Rattle.ct_machine.specs.Machine.{Machine, db_of}
+use Rattle.ct_state.specs.Machine.{Machine, db_of}
 
 -- what contracts see of a core: its disk, the newest database, the sessions, the time in seconds, and the number of the next
 -- transaction

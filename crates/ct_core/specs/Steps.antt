@@ -5,9 +5,9 @@ use Rattle.ct_types.specs.declared.entry.Write.{Write}
 use Rattle.ct_types.specs.declared.schema.Schema.{Schema}
 use Rattle.ct_machine.specs.declared.decision.Decision.{Decision}
 use Rattle.ct_machine.specs.declared.decision.Decision.TheVariants.{Refuses, Aborts}
-use Rattle.ct_machine.specs.Conflicts.{conflict}
-use Rattle.ct_machine.specs.Holding.{blocked_keys}
-use Rattle.ct_machine.specs.Machine.{Machine}
+use Rattle.ct_state.specs.Conflicts.{conflict}
+use Rattle.ct_state.specs.Holding.{blocked_keys}
+use Rattle.ct_state.specs.Machine.{Machine}
 
 -- what keeps writes of a session out of a table: a key that another session holds, else a change after the session's view
 abbrev pub kept_out : Machine → ℕ → Schema → List Write → Option Decision

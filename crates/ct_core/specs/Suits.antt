@@ -11,7 +11,7 @@ use Rattle.ct_session.specs.declared.tran.Tran.{Tran}
 use Rattle.ct_session.specs.declared.tran.Tran.TheVariants as tran
 use Rattle.ct_machine.specs.Decide.{variable_in}
 use Rattle.ct_machine.specs.Reads.{catalogue}
-use Rattle.ct_machine.specs.Seen.{Seen}
+use Rattle.ct_state.specs.Seen.{Seen}
 
 -- SET names a variable that is there, and DECLARE one that is not; BEGIN and what defines, tracks or truncates stands in no transaction
 abbrev pub Suits : Tran → List Variable → Stmt → Bound → Type 0

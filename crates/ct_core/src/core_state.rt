@@ -2,13 +2,15 @@ ghost use Rattle.std.specs.Prelude.{◌≡◌, ◌+◌, ◌^◌, ◌<◌, ◌≤
 ghost use Rattle.ct_types.specs.declared.refusal.Refusal.TheVariants.{Exhausted};
 ghost use Rattle.ct_types.specs.declared.reply.Reply.TheVariants.{Refused};
 ghost use Rattle.ct_session.specs.Sessions.{SessionState};
-ghost use Rattle.ct_machine.specs.Machine.{Machine, db_of};
-ghost use Rattle.ct_machine.specs.Seen.{takes_view as takes_a_view};
-ghost use Rattle.ct_machine.specs.Step.{entry_of, has_room as has_room_for, most_number, next_xdes, xdes_or};
+ghost use Rattle.ct_state.specs.Machine.{Machine, db_of, next_xdes, xdes_or};
+ghost use Rattle.ct_state.specs.Seen.{takes_view as takes_a_view};
+ghost use Rattle.ct_machine.specs.Step.{entry_of, has_room as has_room_for, most_number};
 ghost use Rattle.ct_core.specs.Settling.{takes_view_of};
 
-use crate::decide::decide_command;
+use crate::asks::asks_versions;
+use crate::decide::{decide_command, waiting};
 use crate::reads::env;
+use crate::writing::is_open;
 use ct_database::Database;
 use ct_machine::{Decision, draws_version, has_number};
 use ct_sessions::Sessions;
@@ -141,11 +143,14 @@ impl<D> Core<D> {
     ghost use Rattle.ct_bind_names.specs.Catalogue.{is_declared};
     ghost use Rattle.ct_database.specs.Waiting.{AreStoredIn};
     ghost use Rattle.ct_model.specs.Apply.{no_db};
+    ghost use Rattle.ct_types.specs.declared.command.Command.TheVariants.{Sql};
+    ghost use Rattle.ct_types.specs.declared.stmt.Stmt.TheVariants as stmt;
     ghost use Rattle.ct_machine.specs.Decide.{decide as decided};
     ghost use Rattle.ct_machine.specs.Fits.{RowsFit};
-    ghost use Rattle.ct_machine.specs.Machine.{opening};
-    ghost use Rattle.ct_machine.specs.Play.{Follows, after, is_memory};
-    ghost use Rattle.ct_machine.specs.Seen.{seen_by};
+    ghost use Rattle.ct_state.specs.Machine.{opening, with_session};
+    ghost use Rattle.ct_machine.specs.Play.{Follows, after};
+    ghost use Rattle.ct_state.specs.Replies.{is_memory};
+    ghost use Rattle.ct_state.specs.Seen.{seen_by};
     ghost use Rattle.ct_sessions.specs.Owns.{IsReady, MayView, own_or};
     ghost use Rattle.ct_sessions.specs.Seats.{own_in, state_in};
     ghost use Rattle.ct_core.specs.Range.{CommitIsKept, DecisionIsKept, WaitIsKept};
@@ -153,7 +158,6 @@ impl<D> Core<D> {
     ghost use Rattle.ct_core.specs.Stands.{Stands};
     ghost use Rattle.ct_session.specs.Sessions.{ended};
     ghost use Rattle.ct_session.specs.declared.tran.Tran.TheVariants as tran;
-    ghost use Rattle.ct_machine.specs.Machine.{with_session};
     ghost use Rattle.ct_machine.specs.Step.{viewed};
 
     /// The core of an opening without anything on the disk: the empty database at time 0, and fresh sessions. The first
@@ -368,15 +372,90 @@ impl<D> Core<D> {
         self.sessions.prepare(session, &self.db)
     }
 
+    /// Sees to it that the versions of rows are noted, where a statement asks for them.
+    fn note(&mut self, what: &Command) -> Result<(), Memory>
+        ensures { self.new ≡ self.old }
+    {
+        if asks_versions(what) {
+            self.db.note_versions()?;
+        }
+        Ok(())
+    }
+
+    /// A statement that reads or writes what its session sees.
+    fn step(&mut self, alloc: Global, session: u8, what: &Command) -> Result<Reply, Memory>
+        ensures ok { IfOk result (λ reply. (m : Machine) → Stands self.old m → IsTaken m session what.now reply self.new) }
+        ensures fits { OnOk result ((m : Machine) → Stands self.old m → RowsFit (seen_by m (m.sessions session)) what.now) }
+        ensures disk { self.new.disk ≡ self.old.disk }
+        ensures err { OnErr result (StaysFor self.old self.new) }
+    {
+        self.note(what)?;
+        self.prepare(session)?;
+        let decision = self.decide(alloc, session, what)?;
+        self.settle(session, what, decision)
+    }
+
+    /// COMMIT of a session. What the session sees plays no part, so it is not brought up to date.
+    fn commit_pending(&mut self, alloc: Global, session: u8) -> Result<Reply, Memory>
+        ensures ok { IfOk result (λ reply. (m : Machine) → Stands self.old m → IsTaken m session (Sql stmt.Commit) reply self.new) }
+        ensures disk { self.new.disk ≡ self.old.disk }
+        ensures err { OnErr result (StaysFor self.old self.new) }
+    {
+        if !is_open(self.sessions.tran(session)) {
+            return Ok(Reply::Refused(Refusal::NoCommit));
+        }
+        match waiting(alloc, self.sessions.pending(session))? {
+            None => {
+                self.end(session);
+                Ok(Reply::Done)
+            }
+            Some(writes) => self.commit(session, Act::Commit(writes), Reply::Done),
+        }
+    }
+
+    /// ROLLBACK of a session, in the same way.
+    fn roll_back(&mut self, session: u8) -> Reply
+        ensures taken { (m : Machine) → Stands self.old m → IsTaken m session (Sql stmt.Rollback) result self.new }
+        ensures disk { self.new.disk ≡ self.old.disk }
+    {
+        if !is_open(self.sessions.tran(session)) {
+            return Reply::Refused(Refusal::NoRollback);
+        }
+        self.end(session);
+        Reply::Done
+    }
+
+    /// A sentence of a session: one that ends its transaction, or one that reads or writes what it sees.
+    fn sentence(
+        &mut self,
+        alloc: Global,
+        session: u8,
+        what: &Command,
+        statement: &Stmt,
+    ) -> Result<Reply, Memory>
+        requires { what.now ≡ Sql statement.now }
+        ensures ok { IfOk result (λ reply. (m : Machine) → Stands self.old m → IsTaken m session what.now reply self.new) }
+        ensures fits { OnOk result ((m : Machine) → Stands self.old m → RowsFit (seen_by m (m.sessions session)) what.now) }
+        ensures disk { self.new.disk ≡ self.old.disk }
+        ensures err { OnErr result (StaysFor self.old self.new) }
+    {
+        match statement {
+            Stmt::Commit => self.commit_pending(alloc, session),
+            Stmt::Rollback => Ok(self.roll_back(session)),
+            _ => self.step(alloc, session, what),
+        }
+    }
+
     fn try_event(&mut self, alloc: Global, session: u8, what: &Command) -> Result<Reply, Memory>
         ensures ok { IfOk result (λ reply. (m : Machine) → Stands self.old m → IsTaken m session what.now reply self.new) }
         ensures fits { OnOk result ((m : Machine) → Stands self.old m → RowsFit (seen_by m (m.sessions session)) what.now) }
         ensures disk { self.new.disk ≡ self.old.disk }
         ensures err { OnErr result (StaysFor self.old self.new) }
     {
-        self.prepare(session)?;
-        let decision = self.decide(alloc, session, what)?;
-        self.settle(session, what, decision)
+        match what {
+            Command::Sql(statement) => self.sentence(alloc, session, what, statement),
+            _ => self.step(alloc, session, what),
+        }
     }
 
     /// One event: a statement of a session, with its reply. For every machine for which the core stood, the reply follows,

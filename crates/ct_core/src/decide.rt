@@ -1,15 +1,18 @@
-ghost use Rattle.std.specs.Prelude.{◌≡◌, not, Ok, None, IfOk, OnOk};
+ghost use Rattle.std.specs.Prelude.{◌≡◌, not, Ok, None, IfOk, OnOk, MatchOption};
 ghost use Rattle.std.specs.Option.{option_and_then, option_copied};
 ghost use Rattle.ct_types.specs.Answers.{Gives, demand};
+ghost use Rattle.ct_types.specs.declared.entry.Act.TheVariants.{Commit};
 ghost use Rattle.ct_types.specs.declared.refusal.Refusal.TheVariants.{InTransaction};
+ghost use Rattle.ct_types.specs.declared.reply.Reply.TheVariants.{Done};
+ghost use Rattle.ct_machine.specs.declared.decision.Decision.TheVariants as decision;
 ghost use Rattle.ct_bind.specs.Limits.{KeepsLimits};
 ghost use Rattle.ct_bind_kind_laws.specs.Storing.{StoresWell};
 ghost use Rattle.ct_model.specs.declared.db.Db.{Db};
 ghost use Rattle.ct_model.specs.Tables.{table_of};
 ghost use Rattle.ct_machine.specs.Decide as spec;
 ghost use Rattle.ct_machine.specs.Fits.{AnswerFits, RowsFit};
-ghost use Rattle.ct_machine.specs.Holding.{blocked_table as table_blocked};
-ghost use Rattle.ct_machine.specs.Machine.{Machine};
+ghost use Rattle.ct_state.specs.Holding.{blocked_table as table_blocked};
+ghost use Rattle.ct_state.specs.Machine.{Machine};
 ghost use Rattle.ct_machine.specs.Reads.{catalogue as catalogue_of, selected as selected_in};
 ghost use Rattle.ct_session.specs.Sessions.{SessionState, is_open as open_in};
 ghost use Rattle.ct_database.specs.Waiting.{AreStoredIn};
@@ -121,15 +124,25 @@ fn copied(alloc: Global, writes: &[Write]) -> Result<List<Write>, Memory>
     Ok(made)
 }
 
-/// What COMMIT comes to: the writes that wait become one entry, and where there are none, there is none.
+/// Writes that wait, copied, where there are some: COMMIT makes one entry of them, and where there are none, there is none.
+pub(crate) fn waiting(alloc: Global, writes: &[Write]) -> Result<Option<List<Write>>, Memory>
+    ensures { IfOk result (λ made. MatchOption made (spec.commits writes.now ≡ decision.Ends) (λ copies. (copies ≡ writes.now) × (spec.commits writes.now ≡ decision.Commits (Commit copies) Done))) }
+{
+    if writes.is_empty() {
+        return Ok(None);
+    }
+    Ok(Some(copied(alloc, writes)?))
+}
+
+/// What COMMIT comes to.
 fn commits(alloc: Global, writes: &[Write]) -> Result<Decision, Memory>
     ensures is { IfOk result (λ made. made ≡ spec.commits writes.now) }
     ensures kept { (newest seen : Db) (state : SessionState) → AreStoredIn newest.tables writes.now → IfOk result (DecisionIsKept newest seen state) }
 {
-    if writes.is_empty() {
-        return Ok(Decision::Ends);
+    match waiting(alloc, writes)? {
+        None => Ok(Decision::Ends),
+        Some(writes) => Ok(Decision::Commits(Act::Commit(writes), Reply::Done)),
     }
-    Ok(Decision::Commits(Act::Commit(copied(alloc, writes)?), Reply::Done))
 }
 
 /// What a bound statement comes to.

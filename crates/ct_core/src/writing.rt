@@ -8,7 +8,7 @@ ghost use Rattle.ct_write.specs.Writes.{NamesIds, SparesKey, writes_of};
 ghost use Rattle.ct_machine.specs.Decide as spec;
 ghost use Rattle.ct_machine.specs.Fits.{FitsOn, WriteFits};
 ghost use Rattle.ct_machine.specs.Reads.{world_of};
-ghost use Rattle.ct_machine.specs.Machine.{Machine};
+ghost use Rattle.ct_state.specs.Machine.{Machine};
 ghost use Rattle.ct_model.specs.declared.db.Db.{Db};
 ghost use Rattle.ct_session.specs.Sessions.{SessionState, is_open};
 ghost use Rattle.ct_sessions.specs.Holds.{Holds};

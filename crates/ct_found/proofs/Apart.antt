@@ -2,7 +2,7 @@
 use Rattle.std.proofs.Common.{◌≡◌, ◌≢◌, inl, inr, ⊎_elim, ℕ, ◌<◌, ◌≤◌, Bool, true, false, cond, eqb, List, refl, sym, ◌∙◌, ap, arith}
 use Rattle.std.proofs.lemmas.Bool.Decides.{nat_tests}
 use Rattle.ct_pages.specs.declared.slot.Super.{Super}
-use Rattle.ct_pages.specs.Slots.{IsLogArea, Names, IsNamed}
+use Rattle.ct_pages.specs.Slots.{IsCanonical, IsLogArea, Names, IsNamed}
 use Rattle.ct_pages.proofs.Decoding.{named_is_canonical}
 use Rattle.ct_found.specs.Found.{last_of}
 
@@ -29,10 +29,12 @@ two_apart slot low second other =
     let e : last_of slot ≡ slot.second = last_two slot (omega (arith, second.0)) in
     record { front = omega (arith, second.0, low, e); back = omega (arith, second.0, e); within = omega (arith, second.1, e); first = λ some same. other (sym e ∙ sym same) }
 
-pub named_apart : (bytes : List ℕ) (slot : Super) → Names bytes slot → Apart slot
-named_apart bytes slot names =
-    let canonical = named_is_canonical bytes slot names in
+pub canonical_apart : (slot : Super) → IsCanonical slot → Apart slot
+canonical_apart slot canonical =
     ⊎_elim (λ none. one_apart slot canonical.checkpoint.0 canonical.first none) (λ two. two_apart slot canonical.checkpoint.0 two.0 two.1) canonical.second
+
+pub named_apart : (bytes : List ℕ) (slot : Super) → Names bytes slot → Apart slot
+named_apart bytes slot names = canonical_apart slot (named_is_canonical bytes slot names)
 
 pub last_named : (slot : Super) → IsNamed slot (last_of slot)
 last_named slot = of (eqb slot.second 0)

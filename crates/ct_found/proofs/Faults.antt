@@ -46,7 +46,7 @@ stops_once bytes offset at x y =
     x.offset_is ∙ ap (λ l. length (spell_pieces l)) same ∙ sym y.offset_is
 
 -- pieces stop nowhere in those of a valid database
-no_stop : (bytes : List ℕ) (offset : ℕ) (db : Db) → IsValid db → AllByRecursion PieceFits (pieces_of db) → bytes ≡ spell_pieces (pieces_of db) → PiecesStop bytes offset → ⊥
+pub no_stop : (bytes : List ℕ) (offset : ℕ) (db : Db) → IsValid db → AllByRecursion PieceFits (pieces_of db) → bytes ≡ spell_pieces (pieces_of db) → PiecesStop bytes offset → ⊥
 no_stop bytes offset db valid fit is x =
     let whole : spell_pieces (pieces_of db) ++ [] ≡ bytes = append-nil (spell_pieces (pieces_of db)) ∙ sym is in
     let begin : BeginDatabase (pieces_of db) = record { db = db; more = []; valid = valid; is = sym (append-nil (pieces_of db)) } in

@@ -10,14 +10,14 @@ use Rattle.ct_types.specs.declared.piece.Piece.TheVariants as piece
 use Rattle.ct_model.specs.declared.db.Table.{Table}
 use Rattle.ct_model.specs.declared.db.Db.{Db}
 use Rattle.ct_model.specs.Apply.{no_db}
-use Rattle.ct_found.specs.Pieces.{groups, table_pieces, pieces_of}
+use Rattle.ct_found.specs.Pieces.{groups, table_pieces, pieces_of, front_of}
 use Rattle.ct_found.specs.Gathered.{with_rows, Made, gather}
 use Rattle.ct_found.specs.Laws.{OneDatabase}
 
-abbrev going : Db → Made
+abbrev pub going : Db → Made
 going db = record { db = db; ended = false }
 
-with_more : (before : List Table) (t : Table) (rows : List Row) → with_rows (before ++ t ∷ []) rows ≡ before ++ record t { rows = t.rows ++ rows } ∷ []
+pub with_more : (before : List Table) (t : Table) (rows : List Row) → with_rows (before ++ t ∷ []) rows ≡ before ++ record t { rows = t.rows ++ rows } ∷ []
 with_more [] t rows = refl
 with_more (x ∷ []) t rows = refl
 with_more (x ∷ y ∷ more) t rows = ap (λ l. x ∷ l) (with_more (y ∷ more) t rows)
@@ -46,14 +46,22 @@ kept_gathered : (db : Db) (before kept : List Kept) → fold gather (going (reco
 kept_gathered db before [] = ap (λ l. going (record db { kept = l })) (sym (append-nil before))
 kept_gathered db before (k ∷ kept) = kept_gathered db (before ++ k ∷ []) kept ∙ ap (λ l. going (record db { kept = l })) (append_assoc before (k ∷ []) kept)
 
-pub gathered : (db : Db) → fold gather (going no_db) (pieces_of db) ≡ record { db = db; ended = true }
-gathered db =
+pub front_gathered : (db : Db) → fold gather (going no_db) (front_of db) ≡ going db
+front_gathered db =
     let bare : Db = record no_db { version = db.version; time = db.time; last_xdes = db.last_xdes; keep = db.keep } in
-    let last = map (λ k. piece.Kept k) db.kept ++ piece.End ∷ [] in
+    let last = map (λ k. piece.Kept k) db.kept in
     fold-append gather (going bare) (flat_map table_pieces db.tables) last
     ∙ ap (λ m. fold gather m last) (tables_gathered bare [] db.tables)
-    ∙ fold-append gather (going (record bare { tables = db.tables })) (map (λ k. piece.Kept k) db.kept) (piece.End ∷ [])
-    ∙ ap (λ m. fold gather m (piece.End ∷ [])) (kept_gathered (record bare { tables = db.tables }) [] db.kept)
+    ∙ kept_gathered (record bare { tables = db.tables }) [] db.kept
+
+pub front_ends : (db : Db) → pieces_of db ≡ front_of db ++ piece.End ∷ []
+front_ends db = ap (λ l. piece.Head db.version db.time db.last_xdes db.keep ∷ l) (sym (append_assoc (flat_map table_pieces db.tables) (map (λ k. piece.Kept k) db.kept) (piece.End ∷ [])))
+
+pub gathered : (db : Db) → fold gather (going no_db) (pieces_of db) ≡ record { db = db; ended = true }
+gathered db =
+    ap (λ l. fold gather (going no_db) l) (front_ends db)
+    ∙ fold-append gather (going no_db) (front_of db) (piece.End ∷ [])
+    ∙ ap (λ m. fold gather m (piece.End ∷ [])) (front_gathered db)
 
 -- behind the end nothing counts
 ended_stays : (db : Db) (more : List Piece) → fold gather (record { db = db; ended = true }) more ≡ record { db = db; ended = true }

@@ -5,13 +5,14 @@ use Rattle.ct_model.specs.declared.db.Db.{Db}
 use Rattle.ct_model.specs.Apply.{apply}
 use Rattle.ct_log.specs.Log.{IsLog}
 use Rattle.ct_pages.specs.declared.slot.Super.{Super}
-use Rattle.ct_pages.specs.Slots.{Names}
+use Rattle.ct_pages.specs.Slots.{IsCanonical, Names, IsNamed}
+use Rattle.ct_pages.proofs.Decoding.{named_is_canonical}
 use Rattle.ct_replay.specs.Replay.{Replays}
 use Rattle.ct_replay.proofs.Once.{one_more, same_records}
 use Rattle.ct_found.specs.Checkpoint.{IsCheckpoint}
-use Rattle.ct_found.specs.Found.{last_of, BeginsIn, EarlierBy, Stands}
+use Rattle.ct_found.specs.Found.{last_of, BeginsIn, EarlierBy, Makes, Stands}
 use Rattle.ct_found.specs.Laws.{Elsewhere, OneMoreStands, SameRecordsStand, OnlyNamed, BegunStands, WrittenStands}
-use Rattle.ct_found.proofs.Apart.{named_apart, last_named, last_one, last_two}
+use Rattle.ct_found.proofs.Apart.{canonical_apart, named_apart, last_named, last_one, last_two}
 
 begins_stays : (area size : ℕ) (old new : Image) (db : Db) → (0 < area → new area ≡ old area) → BeginsIn area size old db → BeginsIn area size new db
 begins_stays zero size old new db e begins = begins
@@ -57,22 +58,24 @@ same_records_stand slot old new db records used payloads stands elsewhere was is
 
 -- ---- areas that play no part
 
+pub makes_stays : (slot : Super) (old new : Image) (db : Db) (records used : ℕ) → IsCanonical slot → ((area : ℕ) → IsNamed slot area → (area ≡ 0 → ⊥) → new area ≡ old area) → Makes slot old db records used
+    → Makes slot new db records used
+makes_stays slot old new db records used canonical same makes = record {
+  start = makes.start;
+  begins = begins_stays slot.checkpoint slot.length old new makes.start (λ some. same slot.checkpoint (inr (inl refl)) (λ e. omega (arith, some, e))) makes.begins;
+  before = makes.before;
+  earlier_records = makes.earlier_records;
+  earlier = earlier_stays slot.second (old slot.first) (new slot.first) makes.start makes.before makes.earlier_records (λ some. same slot.first (inr (inr (inl refl))) (λ e. omega (arith, canonical.first.0, e))) makes.earlier;
+  last_records = makes.last_records;
+  last = subst (λ bytes. Replays makes.before bytes db makes.last_records used) (sym (same (last_of slot) (last_named slot) (λ e. omega (arith, (canonical_apart slot canonical).back, e)))) makes.last;
+  records_is = makes.records_is;
+}
+
 pub only_named : OnlyNamed
-only_named slot old new db records used stands same =
-    let makes = stands.makes in
-    record {
-      names = subst (λ bytes. Names bytes slot) (sym (same 0 (inl refl))) stands.names;
-      makes = record {
-        start = makes.start;
-        begins = begins_stays slot.checkpoint slot.length old new makes.start (λ some. same slot.checkpoint (inr (inl refl))) makes.begins;
-        before = makes.before;
-        earlier_records = makes.earlier_records;
-        earlier = earlier_stays slot.second (old slot.first) (new slot.first) makes.start makes.before makes.earlier_records (λ some. same slot.first (inr (inr (inl refl)))) makes.earlier;
-        last_records = makes.last_records;
-        last = subst (λ bytes. Replays makes.before bytes db makes.last_records used) (sym (same (last_of slot) (last_named slot))) makes.last;
-        records_is = makes.records_is;
-      };
-    }
+only_named slot old new db records used stands same = record {
+  names = subst (λ bytes. Names bytes slot) (sym (same 0 (inl refl))) stands.names;
+  makes = makes_stays slot old new db records used (named_is_canonical (old 0) slot stands.names) (λ area named other. same area named) stands.makes;
+}
 
 -- ---- other slots
 

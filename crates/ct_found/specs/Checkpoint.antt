@@ -25,9 +25,9 @@ pub record BeginDatabase (pieces : List Piece) : Type 0 where
   pub valid : IsValid db
   pub is : pieces_of db ≡ pieces ++ more
 
--- the pieces of a checkpoint stop at this offset: up to there stand pieces that some valid database has first; they are not
--- all that stands there and all that it has; and no piece follows with which some valid database would go on. So behind an
--- end piece everything stops
+-- the pieces of a checkpoint stop at this offset. Up to there stand pieces that some valid database has first. They are not
+-- the whole: bytes follow them, or no valid database has these pieces alone. And no piece follows that, put after them, begins
+-- some valid database. So bytes behind an end piece are a fault, at the offset behind it
 pub record PiecesStop (bytes : List ℕ) (offset : ℕ) : Type 0 where
   pub pieces : List Piece
   pub rest : List ℕ

@@ -23,6 +23,10 @@ abbrev pub pieces_of : Db → List Piece
 pieces_of db =
     piece.Head db.version db.time db.last_xdes db.keep ∷ (flat_map table_pieces db.tables ++ (map (λ kept. piece.Kept kept) db.kept ++ piece.End ∷ []))
 
+-- the same without the end
+abbrev pub front_of : Db → List Piece
+front_of db = piece.Head db.version db.time db.last_xdes db.keep ∷ (flat_map table_pieces db.tables ++ map (λ kept. piece.Kept kept) db.kept)
+
 -- pieces are spelled one after the other
 abbrev pub spell_pieces : List Piece → List ℕ
 spell_pieces pieces = flat_map spell_piece pieces

@@ -11,7 +11,7 @@ use Rattle.ct_model.specs.Apply.{written}
 use Rattle.ct_model.specs.Net.{net, net_of, net_tracked}
 use Rattle.ct_model.specs.Tables.{catalogued, rows_with, table_of}
 use Rattle.ct_machine.specs.Laws.{SeesCommitted}
-use Rattle.ct_machine.specs.Seen.{with_writes}
+use Rattle.ct_state.specs.Seen.{with_writes}
 
 one_catalogued : (write : Write) (table : Table) → catalogued (written write table) ≡ catalogued table
 one_catalogued write table = by (table.schema.id == write.table)

@@ -3,8 +3,9 @@ use Rattle.std.proofs.Common.{◌≡◌, ℕ, Bool, true, false, ◌||◌, cond,
 use Rattle.ct_types.specs.declared.reply.Reply.{Reply}
 use Rattle.ct_types.specs.declared.command.Command.{Command}
 use Rattle.ct_types.specs.declared.command.Journaled.{Journaled}
-use Rattle.ct_machine.specs.Machine.{Machine}
-use Rattle.ct_machine.specs.Play.{IsPlay, IsWhole, Follows, Call, after, call_of, end_of, is_memory}
+use Rattle.ct_state.specs.Machine.{Machine}
+use Rattle.ct_machine.specs.Play.{IsPlay, IsWhole, Follows, Call, after, call_of, end_of}
+use Rattle.ct_state.specs.Replies.{is_memory}
 use Rattle.ct_machine.specs.Step.{step}
 
 pub IsPlay-push : (m : Machine) (journal : List Journaled) (one : Journaled) → IsPlay m journal → Follows (end_of m journal) one.session one.what one.reply → IsPlay m (journal ++ one ∷ [])

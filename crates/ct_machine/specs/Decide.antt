@@ -1,6 +1,6 @@
 -- What a statement of a session comes to: a refusal, an answer, or what it changes. The statements are T-SQL's; the order of the
 -- refusals is this project's own.
-use Rattle.std.specs.Prelude.{ℕ, Bool, true, false, not, List, [], ◌∷◌, length, slice_get, Option, None, Some, Ok, Err, if◌then◌else◌}
+use Rattle.std.specs.Prelude.{ℕ, Bool, true, false, not, List, [], ◌∷◌, length, slice_get, Option, None, Some, Ok, Err}
 use Rattle.std.specs.Option.{option_and_then}
 use Rattle.ct_types.specs.declared.bound.Bound.{Bound}
 use Rattle.ct_types.specs.declared.bound.Bound.TheVariants as bound
@@ -22,7 +22,6 @@ use Rattle.ct_types.specs.declared.stmt.Stmt.TheVariants as stmt
 use Rattle.ct_types.specs.declared.value.Key.{Key}
 use Rattle.ct_types.specs.declared.value.Value.{Value}
 use Rattle.ct_types.specs.declared.value.Value.TheVariants.{Null}
-use Rattle.ct_model.specs.declared.db.Db.{Db}
 use Rattle.ct_model.specs.declared.db.Table.{Table}
 use Rattle.ct_model.specs.Tables.{catalogued, table_of}
 use Rattle.ct_types.specs.Answers.{Answer, ◌>>=◌, demand}
@@ -38,11 +37,11 @@ use Rattle.ct_types.specs.declared.command.Command.{Command}
 use Rattle.ct_types.specs.declared.command.Command.TheVariants.{Sql, Wrong}
 use Rattle.ct_machine.specs.declared.decision.Decision.{Decision}
 use Rattle.ct_machine.specs.declared.decision.Decision.TheVariants as decision
-use Rattle.ct_machine.specs.Conflicts.{conflict}
-use Rattle.ct_machine.specs.Holding.{blocked_keys, blocked_table}
-use Rattle.ct_machine.specs.Machine.{Machine}
+use Rattle.ct_state.specs.Conflicts.{conflict}
+use Rattle.ct_state.specs.Holding.{blocked_keys, blocked_table}
+use Rattle.ct_state.specs.Machine.{Machine}
 use Rattle.ct_machine.specs.Reads.{catalogue, world_of, selected}
-use Rattle.ct_machine.specs.Seen.{Seen, seen_by}
+use Rattle.ct_state.specs.Seen.{Seen, seen_by}
 
 -- ---- what a transaction allows
 

@@ -14,7 +14,7 @@ use Rattle.ct_bind.specs.Binding.{binding}
 use Rattle.ct_write.specs.Fitting.{IsFit}
 use Rattle.ct_write.specs.Writes.{writes_of}
 use Rattle.ct_machine.specs.Reads.{catalogue, world_of}
-use Rattle.ct_machine.specs.Seen.{Seen}
+use Rattle.ct_state.specs.Seen.{Seen}
 
 -- the rows that a write comes to on a table fit the table's columns
 abbrev pub FitsOn : Seen → BoundWrite → Table → Type 0

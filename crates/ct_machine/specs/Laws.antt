@@ -8,10 +8,10 @@ use Rattle.ct_model.specs.Applies.{Applies}
 use Rattle.ct_model.specs.Net.{net}
 use Rattle.ct_model.specs.Versions.{current, row_version}
 use Rattle.ct_types.specs.declared.command.Journaled.{Journaled}
-use Rattle.ct_machine.specs.Machine.{Machine}
+use Rattle.ct_state.specs.Machine.{Machine}
 use Rattle.ct_machine.specs.Play.{Follows, after, IsPlay, IsWhole, call_of, end_of}
 use Rattle.ct_machine.specs.Reads.{catalogue}
-use Rattle.ct_machine.specs.Seen.{with_writes}
+use Rattle.ct_state.specs.Seen.{with_writes}
 use Rattle.ct_machine.specs.Step.{act_draws}
 
 -- a play goes on by one statement whose reply follows

@@ -1,8 +1,4 @@
-pub mod Machine
-pub mod Seen
 pub mod Reads
-pub mod Holding
-pub mod Conflicts
 pub mod Decide
 pub mod Step
 pub mod Play

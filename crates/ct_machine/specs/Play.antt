@@ -1,18 +1,12 @@
 -- When a journal is a play of the machine. This project's own.
-use Rattle.std.specs.Prelude.{◌≡◌, ℕ, Bool, true, false, List, [], ◌∷◌, ◌⊎◌, if◌then◌else◌}
+use Rattle.std.specs.Prelude.{◌≡◌, ℕ, true, false, List, [], ◌∷◌, ◌⊎◌, if◌then◌else◌}
 use Rattle.std.specs.List.{list_any}
-use Rattle.ct_types.specs.declared.refusal.Refusal.TheVariants.{Memory}
 use Rattle.ct_types.specs.declared.reply.Reply.{Reply}
-use Rattle.ct_types.specs.declared.reply.Reply.TheVariants.{Refused}
 use Rattle.ct_types.specs.declared.command.Command.{Command}
 use Rattle.ct_types.specs.declared.command.Journaled.{Journaled}
-use Rattle.ct_machine.specs.Machine.{Machine}
+use Rattle.ct_state.specs.Machine.{Machine}
+use Rattle.ct_state.specs.Replies.{is_memory}
 use Rattle.ct_machine.specs.Step.{step}
-
--- whether a reply says that memory was wanting
-abbrev pub is_memory : Reply → Bool
-is_memory (Refused Memory) = true
-is_memory other = false
 
 -- the replies that a machine may give to a session: its own, or want of memory
 abbrev pub Follows : Machine → ℕ → Command → Reply → Type 0

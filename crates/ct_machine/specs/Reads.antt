@@ -34,7 +34,7 @@ use Rattle.ct_expr.specs.Functions.{counted, counted_or_null, bytes_or_null, one
 use Rattle.ct_expr.specs.Meaning.{World, on, row_version, value}
 use Rattle.ct_types.specs.Answers.{Answer, ◌>>=◌, each}
 use Rattle.ct_query.specs.Answer.{answer}
-use Rattle.ct_machine.specs.Seen.{Seen}
+use Rattle.ct_state.specs.Seen.{Seen}
 
 -- ---- names
 

@@ -1,6 +1,6 @@
 -- One statement of a session: what it makes of the machine. Which act draws a version, and the numbers of entries, are this project's
 -- own.
-use Rattle.std.specs.Prelude.{ℕ, ◌+◌, ◌^◌, nat_le, Bool, true, false, not, ◌&&◌, ◌||◌, List, [], ◌∷◌, ◌++◌, Option, None, Some, if◌then◌else◌, is_some}
+use Rattle.std.specs.Prelude.{ℕ, ◌+◌, ◌^◌, nat_le, Bool, true, false, ◌&&◌, List, [], ◌∷◌, ◌++◌, Option, None, Some, if◌then◌else◌, is_some}
 use Rattle.std.specs.List.{list_any}
 use Rattle.ct_types.specs.declared.entry.Act.{Act}
 use Rattle.ct_types.specs.declared.entry.Act.TheVariants.{Commit, Define, Truncate, Enable as enabling, Disable, Database as setting, Raise}
@@ -9,7 +9,6 @@ use Rattle.ct_types.specs.declared.entry.Write.{Write}
 use Rattle.ct_types.specs.declared.refusal.Refusal.TheVariants.{Exhausted}
 use Rattle.ct_types.specs.declared.reply.Reply.{Reply}
 use Rattle.ct_types.specs.declared.reply.Reply.TheVariants.{Done, Refused}
-use Rattle.ct_types.specs.declared.stmt.Stmt.{Stmt}
 use Rattle.ct_model.specs.declared.db.Db.{Db}
 use Rattle.ct_model.specs.declared.db.Table.{Table}
 use Rattle.ct_model.specs.Tables.{table_of}
@@ -19,8 +18,8 @@ use Rattle.ct_session.specs.Sessions.{SessionState, begun, ended, pended}
 use Rattle.ct_session.specs.SetDeclare.{with_value, with_variable}
 use Rattle.ct_machine.specs.declared.decision.Decision.{Decision}
 use Rattle.ct_machine.specs.declared.decision.Decision.TheVariants.{Refuses, Aborts, Answers, Commits, Pends, Begins, Ends, Isolates, Sets, Declares}
-use Rattle.ct_machine.specs.Machine.{Machine, db_of, with_session}
-use Rattle.ct_machine.specs.Seen.{takes_view, viewing}
+use Rattle.ct_state.specs.Machine.{Machine, db_of, next_xdes, with_session, xdes_or}
+use Rattle.ct_state.specs.Seen.{takes_view, viewing}
 use Rattle.ct_machine.specs.Decide.{decide}
 
 -- ---- entries
@@ -49,16 +48,6 @@ has_number (Define schema) = true
 has_number (Disable id) = true
 has_number (setting keep) = true
 has_number (Raise minima) = false
-
--- the number that a transaction has drawn, else the next one
-abbrev pub xdes_or : ℕ → Option ℕ → ℕ
-xdes_or next None = next
-xdes_or next (Some xdes) = xdes
-
--- the next number once a transaction has one: the same where it was drawn before
-abbrev pub next_xdes : ℕ → Option ℕ → ℕ
-next_xdes next None = next + 1
-next_xdes next (Some xdes) = next
 
 -- an act as an entry: at this time; with the next version where it draws one; with the number of the session's transaction, or the
 -- next one where it has drawn none; 0 where the act has no number

@@ -1,7 +1,7 @@
 ghost use Rattle.std.specs.Prelude.{◌≡◌};
 ghost use Rattle.std.specs.List.{list_any};
 ghost use Rattle.ct_model.specs.declared.db.Db.{Db};
-ghost use Rattle.ct_machine.specs.Play.{is_memory};
+ghost use Rattle.ct_state.specs.Replies.{is_memory};
 ghost use Rattle.ct_machine.specs.Reads.{catalogue, tracks};
 ghost use Rattle.ct_machine.specs.Step.{act_draws, has_number as act_has_number};
 

@@ -49,7 +49,7 @@ use Rattle.ct_session.specs.SetDeclare.{with_value}
 use Rattle.ct_write.specs.Laws.{EachSuits, IsOfKinds, IsOfTable, SetsColumns, Suits}
 use Rattle.ct_write.specs.Rows.{no_row}
 use Rattle.ct_machine.specs.Reads.{world_of}
-use Rattle.ct_machine.specs.Seen.{Seen}
+use Rattle.ct_state.specs.Seen.{Seen}
 use Rattle.ct_machine_laws.specs.Writes.{WritesSuitTheirTable, SetsSuitTheirVariable, DeclaresSuitTheirVariable}
 
 -- ---- rows

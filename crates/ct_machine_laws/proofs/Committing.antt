@@ -38,10 +38,10 @@ use Rattle.ct_types.specs.declared.command.Command.TheVariants.{Sql, Wrong}
 use Rattle.ct_machine.specs.declared.decision.Decision.{Decision}
 use Rattle.ct_machine.specs.declared.decision.Decision.TheVariants.{Refuses, Aborts, Commits}
 use Rattle.ct_machine.specs.Decide.{allowed, altered, answered, commits, decide, decide_bound, once_allowed, once_bound, seen, unless}
-use Rattle.ct_machine.specs.Holding.{blocked_table}
-use Rattle.ct_machine.specs.Machine.{Machine, db_of}
+use Rattle.ct_state.specs.Holding.{blocked_table}
+use Rattle.ct_state.specs.Machine.{Machine, db_of}
 use Rattle.ct_machine.specs.Reads.{catalogue, selected}
-use Rattle.ct_machine.specs.Seen.{read_by, with_writes}
+use Rattle.ct_state.specs.Seen.{read_by, with_writes}
 use Rattle.ct_machine.specs.Step.{act_draws, entry_of, is_tracked}
 use Rattle.ct_machine_laws.specs.Laws.{CommandsCommitWell, CreatesCommitWell, EnablesCommitWell, DisablesCommitWell, TruncatesCommitWell, SelectsCommitWell, SettingsCommitWell, TransactionsCommitWell, IsOfTransactions, WrongCommitsWell}
 use Rattle.ct_machine_laws.specs.Sound.{CommitsWell, IsSound, IsWell}

@@ -11,7 +11,7 @@ use Rattle.ct_types.specs.declared.value.Key.{Key}
 use Rattle.ct_model.proofs.Members.{all_weaken}
 use Rattle.ct_conflicts.specs.Conflicts.{is_on}
 use Rattle.ct_session.specs.Sessions.{SessionState}
-use Rattle.ct_machine.specs.Holding.{blocked_keys, blocked_table, first_key, holds_key, least_from, least_other}
+use Rattle.ct_state.specs.Holding.{blocked_keys, blocked_table, first_key, holds_key, least_from, least_other}
 use Rattle.ct_machine_laws.specs.Transactions.{NameOthers, NamesOther, Spares}
 use Rattle.ct_machine_laws.proofs.Sparing.{neither, of_on, on_it}
 

@@ -32,8 +32,9 @@ use Rattle.ct_write.specs.Rows.{no_row}
 use Rattle.ct_types.specs.declared.command.Command.{Command}
 use Rattle.ct_types.specs.declared.command.Command.TheVariants.{Sql, Wrong}
 use Rattle.ct_machine.specs.Decide.{decide_bound, declares, fitting, seen, set_variable, sets}
-use Rattle.ct_machine.specs.Machine.{Machine}
-use Rattle.ct_machine.specs.Play.{after, is_memory}
+use Rattle.ct_state.specs.Machine.{Machine}
+use Rattle.ct_machine.specs.Play.{after}
+use Rattle.ct_state.specs.Replies.{is_memory}
 use Rattle.ct_machine.specs.Reads.{catalogue, world_of}
 use Rattle.ct_machine.specs.Step.{step}
 use Rattle.ct_machine_laws.specs.Laws.{DeclaresCommitWell, IsAccepted, SetsCommitWell}
@@ -167,7 +168,7 @@ form_commits_well m s stmt.SetLockTimeout sound spelled fits = transactions_comm
 form_commits_well m s (stmt.SetVariable name expr) sound spelled fits = sets_commit_well m s name expr sound
 form_commits_well m s (stmt.Declare name written given) sound spelled fits = declares_commit_well m s name written given sound
 
-commits_well : (m : Machine) (s : ℕ) (what : Command) → IsSound m → IsSpelledCommand what → RowsFit (seen m s) what → CommitsWell m s what
+pub commits_well : (m : Machine) (s : ℕ) (what : Command) → IsSound m → IsSpelledCommand what → RowsFit (seen m s) what → CommitsWell m s what
 commits_well m s (Wrong refusal) sound spelled fits = wrong_commits_well m s refusal
 commits_well m s (Sql statement) sound spelled fits = form_commits_well m s statement sound spelled fits
 commits_well m s command sound spelled fits = commands_commit_well m s command tt

@@ -23,9 +23,9 @@ use Rattle.ct_model_laws.proofs.Standing.{StandOn, mapped_valid, stand_on}
 use Rattle.ct_conflicts.specs.Conflicts.{alters, conflicting, conflicting_keys, last_number, writes_key}
 use Rattle.ct_session.specs.declared.tran.Tran.{Tran}
 use Rattle.ct_session.specs.declared.tran.Tran.TheVariants as tran
-use Rattle.ct_machine.specs.Conflicts.{conflict}
-use Rattle.ct_machine.specs.Machine.{Machine, db_at, db_of}
-use Rattle.ct_machine.specs.Seen.{read_by, with_writes}
+use Rattle.ct_state.specs.Conflicts.{conflict}
+use Rattle.ct_state.specs.Machine.{Machine, db_at, db_of}
+use Rattle.ct_state.specs.Seen.{read_by, with_writes}
 use Rattle.ct_machine_laws.specs.Laws.{SeenIsValid}
 use Rattle.ct_machine_laws.specs.Sound.{IsSound}
 use Rattle.ct_machine_laws.specs.Transactions.{Spares}

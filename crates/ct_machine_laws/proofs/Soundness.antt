@@ -31,10 +31,11 @@ use Rattle.ct_types.specs.declared.command.Journaled.{Journaled}
 use Rattle.ct_machine.specs.declared.decision.Decision.{Decision}
 use Rattle.ct_machine.specs.declared.decision.Decision.TheVariants.{Refuses, Aborts, Answers, Commits, Pends, Begins, Ends, Isolates, Sets, Declares}
 use Rattle.ct_machine.specs.Decide.{decide}
-use Rattle.ct_machine.specs.Machine.{Machine, db_of, opening, with_session}
-use Rattle.ct_machine.specs.Play.{after, end_of, is_memory}
-use Rattle.ct_machine.specs.Seen.{takes_view, tran_viewing, viewing}
-use Rattle.ct_machine.specs.Step.{changed, committed, decision_of, entry_of, has_number, has_room, machine_after, most_number, next_xdes, settled, step, viewed, with_pending, xdes_or}
+use Rattle.ct_state.specs.Machine.{Machine, db_of, opening, with_session, next_xdes, xdes_or}
+use Rattle.ct_machine.specs.Play.{after, end_of}
+use Rattle.ct_state.specs.Replies.{is_memory}
+use Rattle.ct_state.specs.Seen.{takes_view, tran_viewing, viewing}
+use Rattle.ct_machine.specs.Step.{changed, committed, decision_of, entry_of, has_number, has_room, machine_after, most_number, settled, step, viewed, with_pending}
 use Rattle.ct_machine_laws.specs.Laws.{EntriesApply, OneHolds, OpensSound, PendingApplies, PlaysKeepValid, SoundIsValid, StaysSound}
 use Rattle.ct_machine_laws.specs.Sound.{CommitsWell, EachCommitsWell, IsSound, IsWell}
 use Rattle.ct_machine_laws.specs.Transactions.{AreApart, AreSessionsSound, IsDrawn, IsSessionSound, IsViewWithin, MayWait, NameOthers, NamesOther, Spares, SparesOthers}

@@ -24,12 +24,12 @@ use Rattle.ct_write.specs.Duplicates.{duplicate}
 use Rattle.ct_write.specs.Writes.{write_of, writes_of}
 use Rattle.ct_write.proofs.Parts.{parts_of}
 use Rattle.ct_write.proofs.Statements.{are_accepted}
-use Rattle.ct_machine.specs.Conflicts.{conflict}
+use Rattle.ct_state.specs.Conflicts.{conflict}
 use Rattle.ct_machine.specs.Decide.{counted, decide_bound, fitted, seen, without_duplicates, written as written_as}
-use Rattle.ct_machine.specs.Holding.{blocked_keys}
-use Rattle.ct_machine.specs.Machine.{Machine, db_of}
+use Rattle.ct_state.specs.Holding.{blocked_keys}
+use Rattle.ct_state.specs.Machine.{Machine, db_of}
 use Rattle.ct_machine.specs.Reads.{catalogue, world_of}
-use Rattle.ct_machine.specs.Seen.{with_writes}
+use Rattle.ct_state.specs.Seen.{with_writes}
 use Rattle.ct_machine_laws.specs.Laws.{IsAccepted, WritesCommitWell}
 use Rattle.ct_machine_laws.specs.Sound.{IsSound, IsWell}
 use Rattle.ct_machine_laws.specs.Transactions.{NameOthers}

@@ -3,11 +3,12 @@ use Rattle.std.specs.Prelude.{◌≡◌, ◌<◌, ℕ, false}
 use Rattle.ct_types.specs.declared.reply.Reply.{Reply}
 use Rattle.ct_types.specs.declared.command.Command.{Command}
 use Rattle.ct_types.specs.declared.command.Command.TheVariants.{Sql}
-use Rattle.ct_machine.specs.Machine.{Machine}
-use Rattle.ct_machine.specs.Play.{after, is_memory}
+use Rattle.ct_state.specs.Machine.{Machine}
+use Rattle.ct_machine.specs.Play.{after}
+use Rattle.ct_state.specs.Replies.{is_memory}
 use Rattle.ct_machine_laws.specs.Sound.{IsSound}
 use Rattle.ct_machine.specs.Fits.{RowsFit}
-use Rattle.ct_machine.specs.Seen.{seen_by}
+use Rattle.ct_state.specs.Seen.{seen_by}
 use Rattle.ct_machine_laws.specs.Spelled.{IsSpelled}
 
 -- a sentence is one that the grammar gives; of anything else nothing is asked

@@ -29,14 +29,14 @@ use Rattle.ct_types.specs.declared.command.Command.{Command}
 use Rattle.ct_types.specs.declared.command.Command.TheVariants.{Sql, Wrong}
 use Rattle.ct_types.specs.declared.command.Journaled.{Journaled}
 use Rattle.ct_machine.specs.declared.decision.Decision.TheVariants.{Commits}
-use Rattle.ct_machine.specs.Holding.{holds_key}
-use Rattle.ct_machine.specs.Machine.{Machine, db_of, opening}
+use Rattle.ct_state.specs.Holding.{holds_key}
+use Rattle.ct_state.specs.Machine.{Machine, db_of, opening}
 use Rattle.ct_machine.specs.Play.{after, end_of}
 use Rattle.ct_machine.specs.Reads.{catalogue, world_of}
 use Rattle.ct_machine.specs.Step.{act_draws, decision_of, entry_of}
 use Rattle.ct_machine_laws.specs.Sound.{IsSound, CommitsWell, EachCommitsWell}
 use Rattle.ct_machine.specs.Fits.{FitsOn}
-use Rattle.ct_machine.specs.Seen.{Seen, seen_by}
+use Rattle.ct_state.specs.Seen.{Seen, seen_by}
 
 -- ---- sound machines
 

@@ -10,7 +10,7 @@ use Rattle.ct_session.specs.SetDeclare.{with_value}
 use Rattle.ct_machine.specs.declared.decision.Decision.{Decision}
 use Rattle.ct_machine.specs.declared.decision.Decision.TheVariants.{Refuses, Aborts, Answers, Commits, Pends, Begins, Ends, Isolates, Sets, Declares}
 use Rattle.ct_machine.specs.Decide.{decide}
-use Rattle.ct_machine.specs.Machine.{Machine, db_of}
+use Rattle.ct_state.specs.Machine.{Machine, db_of}
 use Rattle.ct_machine.specs.Play.{after}
 use Rattle.ct_machine.specs.Step.{act_draws, entry_of}
 use Rattle.ct_machine_laws.specs.Transactions.{AreSessionsSound, MayWait, SparesOthers}

@@ -22,7 +22,7 @@ use Rattle.ct_session.specs.SetDeclare.{with_value}
 use Rattle.ct_write.specs.Laws.{IsOfTable, IsOfKinds}
 use Rattle.ct_write.specs.Rows.{no_row}
 use Rattle.ct_machine.specs.Reads.{world_of}
-use Rattle.ct_machine.specs.Seen.{Seen}
+use Rattle.ct_state.specs.Seen.{Seen}
 
 -- In the catalogue of a valid database, among variables of the kinds of their types, the SET list of a bound write names columns of
 -- its table, one at least and none of the key, and each value that is put into a column is of the column's kind.

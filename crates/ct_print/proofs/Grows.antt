@@ -5,7 +5,7 @@ use Rattle.std.proofs.lemmas.Grind.{flat_map-append}
 use Rattle.std.proofs.lemmas.List.Folds.{list_any-append}
 use Rattle.std.proofs.lemmas.List.Sums.{sum_by-cons, sum_by_push}
 use Rattle.ct_types.specs.declared.command.Journaled.{Journaled}
-use Rattle.ct_machine.specs.Play.{is_memory}
+use Rattle.ct_state.specs.Replies.{is_memory}
 use Rattle.ct_machine.specs.Transcript.{block_text, text_from, further_from, run_text}
 use Rattle.ct_print.specs.Growing.{Growing, with_block, with_journal, with_phase, grown}
 use Rattle.ct_print.proofs.Transcripts.{further_from-push}

@@ -2,7 +2,7 @@
 use Rattle.std.specs.Prelude.{ℕ, ◌+◌, ◌||◌, Bool, true, false, codes, List, [], ◌∷◌, ◌++◌, fold, flat_map, sum_by, length, if◌then◌else◌}
 use Rattle.std.specs.List.{list_any}
 use Rattle.ct_types.specs.declared.command.Journaled.{Journaled}
-use Rattle.ct_machine.specs.Play.{is_memory}
+use Rattle.ct_state.specs.Replies.{is_memory}
 use Rattle.ct_machine.specs.Transcript.{block_text, run_text}
 
 -- its text, whether a phase has begun, the place of the next block, and whether a reply said that memory was wanting

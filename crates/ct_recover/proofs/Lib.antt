@@ -1,2 +1,5 @@
 pub mod Appending
+pub mod Beginnings
 pub mod Replays
+pub mod Settles
+pub mod Standing

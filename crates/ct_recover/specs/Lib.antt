@@ -1,2 +1,4 @@
+pub mod Laws
 pub mod Reading
+pub mod Settling
 pub mod Volume

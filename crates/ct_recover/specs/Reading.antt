@@ -7,6 +7,7 @@ use Rattle.ct_log.specs.declared.fault.OpenFault.TheVariants.{Foreign, DiskFault
 use Rattle.ct_pages.specs.declared.slot.Super.{Super}
 use Rattle.ct_replay.specs.Replay.{Replays, BreaksOff}
 use Rattle.ct_replay.specs.declared.reading.Replayed.{Replayed}
+use Rattle.ct_found.specs.Checkpoint.{IsCheckpoint, IsNoCheckpoint}
 use Rattle.ct_found.specs.Found.{IsFresh, Begins, Makes, Stands}
 use Rattle.ct_found.specs.Foreign.{CheckpointFails, AreaFails, IsForeign}
 use Rattle.ct_recover.specs.declared.reading.Found.{Found}
@@ -18,6 +19,13 @@ ReplaysArea area start bytes (Ok made) = Replays start bytes made.db made.record
 ReplaysArea area start bytes (Err (Foreign at offset)) = (at ≡ area) × BreaksOff start bytes offset
 ReplaysArea area start bytes (Err DiskFault) = Unit {0}
 ReplaysArea area start bytes (Err Memory) = Unit {0}
+
+-- the reading of a checkpoint of this length, in an area of these bytes
+abbrev pub ReadsCheckpoint : ℕ → ℕ → List ℕ → Result Db OpenFault → Type 0
+ReadsCheckpoint area size bytes (Ok db) = IsCheckpoint bytes size db
+ReadsCheckpoint area size bytes (Err (Foreign at offset)) = (at ≡ area) × IsNoCheckpoint bytes size offset
+ReadsCheckpoint area size bytes (Err DiskFault) = ⊥
+ReadsCheckpoint area size bytes (Err Memory) = Unit {0}
 
 -- the reading of the database with which a slot begins
 abbrev pub ReadsBeginning : Super → Image → Result Db OpenFault → Type 0

@@ -5,7 +5,7 @@ use Rattle.ct_types.specs.ColumnFit.{IsBigInt}
 use Rattle.ct_types.specs.declared.bound.BoundExpr.{BoundExpr, roll-BoundExpr, map-BoundExpr}
 use Rattle.ct_types.specs.declared.bound.BoundExpr.TheOpen as e
 use Rattle.ct_types.specs.declared.bound.BoundExpr.TheOpen.{BoundExpr-F, BoundTerm-F, BoundScalar-F, BoundRowVersion-F}
-use Rattle.ct_types.specs.declared.bound.BoundExpr.TheFolds.{map-BoundRowVersion, map-BoundScalar, map-BoundTerm, fold-roll-BoundExpr, fold-roll-BoundRowVersion, fold-roll-BoundScalar, fold-roll-BoundTerm, ind-BoundExpr}
+use Rattle.ct_types.specs.declared.bound.BoundExpr.TheFolds.{map-BoundRowVersion, map-BoundScalar, map-BoundTerm, fold-roll-BoundExpr, fold-roll-BoundRowVersion, fold-roll-BoundScalar, fold-roll-BoundTerm, fold_out-BoundTerm, ind-BoundExpr}
 use Rattle.ct_types.specs.declared.bound.BoundRowVersion.{BoundRowVersion, roll-BoundRowVersion}
 use Rattle.ct_types.specs.declared.bound.BoundScalar.{BoundScalar, roll-BoundScalar}
 use Rattle.ct_types.specs.declared.bound.BoundTerm.{BoundTerm, roll-BoundTerm}
@@ -20,7 +20,7 @@ use Rattle.ct_types.proofs.AnswersCaused.{Caused, ok_caused, weaker, then_caused
 use Rattle.ct_model.proofs.Members.{all_map}
 use Rattle.ct_expr.specs.Numbers.{plus, minus}
 use Rattle.ct_expr.specs.Meaning.{Scene, Meaning, Operand, chain, multiplied, added, conjoined, disjoined, listed, one, meaning_rule, row_version_rule, scalar_rule, operand_rule, meaning, row_version, scalar, operand, value, truth, product, sum}
-use Rattle.ct_refusal_laws.specs.Parts.{Form, IsKeyValue, IsScalarValue, IsTermValue, IsOperand, itself, inside}
+use Rattle.ct_refusal_laws.specs.Parts.{Form, IsOperand, itself, inside}
 use Rattle.ct_refusal_laws.specs.Overflows.{Leaves, Overflows}
 use Rattle.ct_refusal_laws.specs.Laws.{ValuesRefuseOverflow, TruthsRefuseOverflow}
 use Rattle.ct_refusal_laws.proofs.Numbers.{on_numbers_caused, negative_caused}
@@ -45,13 +45,13 @@ module _ (s : Scene) where
     truth_is : Explained (Whole x) (truth s x)
 
   abbrev OfRowVersion : BoundRowVersion → Type 0
-  OfRowVersion x = Explained (IsKeyValue x) (row_version s x)
+  OfRowVersion x = Explained (Contains x.values) (row_version s x)
 
   abbrev OfScalar : BoundScalar → Type 0
-  OfScalar x = Explained (IsScalarValue x) (scalar s x)
+  OfScalar x = Explained (Contains x.version.values) (scalar s x)
 
   abbrev OfTerm : BoundTerm → Type 0
-  OfTerm x = Explained (IsTermValue x) (operand s x).meaning.value
+  OfTerm x = Explained (Whole x.value) (operand s x).meaning.value
 
   -- parts, each with what is known of it
   abbrev E : Type 0
@@ -122,6 +122,10 @@ module _ (s : Scene) where
   added_caused true a b cause = on_numbers_caused (λ m n. m -ℤ n) a b cause
   added_caused false a b cause = on_numbers_caused (λ m n. m +ℤ n) a b cause
 
+  -- an operand by its value
+  opened : (t : BoundTerm) → operand s t ≡ record { subtracts = t.subtracts; meaning = meaning s t.value }
+  opened t = fold_out-BoundTerm Meaning (Answer (Key × VersionRow)) (Answer Value) Operand (meaning_rule s) (row_version_rule s) scalar_rule operand_rule t
+
   sum_explained : (first : BoundExpr) (terms before : List BoundTerm) (more : List T) (begun so_far : Value) → value s first ≡ Ok begun → terms ≡ before ++ map term_in more → sum s begun before ≡ Ok so_far
       → Explained (Whole (roll-BoundExpr (e.Sum first terms))) (chain added so_far (map (operand s) (map term_in more)))
   sum_explained first terms before [] begun so_far begins are came = ok_caused so_far
@@ -129,7 +133,7 @@ module _ (s : Scene) where
       let is : Contains terms p.0 = subst (λ (ts : List BoundTerm). Contains ts p.0) (sym are) (behind_is_in before p.0 (map term_in more)) in
       let further : terms ≡ (before ++ p.0 ∷ []) ++ map term_in more = are ∙ sym (append_assoc before (p.0 ∷ []) (map term_in more)) in
       after_caused (added so_far (operand s p.0)) (λ made. chain added made (map (operand s) (map term_in more)))
-      (after_caused (operand s p.0).meaning.value _ (inherit (e.Sum first terms) (IsTermValue p.0) (operand s p.0).meaning.value (λ y of. inr (p.0, is, of)) p.1)
+      (after_caused (operand s p.0).meaning.value _ (inherit (e.Sum first terms) (Whole p.0.value) (operand s p.0).meaning.value (λ y of. inr (p.0, is, of)) p.1)
       (λ x comes. added_caused (operand s p.0).subtracts so_far x (λ m n made number leaves. own (e.Sum first terms) (record {
         before = before;
         term = p.0;
@@ -140,8 +144,8 @@ module _ (s : Scene) where
         number = n;
         begins = begins;
         made_is = came ∙ ap (λ (v : Value). Ok v) made;
-        comes = comes ∙ ap (λ (v : Value). Ok v) number;
-        leaves = leaves;
+        comes = sym (ap (λ (o : Operand). o.meaning.value) (opened p.0)) ∙ (comes ∙ ap (λ (v : Value). Ok v) number);
+        leaves = subst (λ (o : Operand). ¬ IsBigInt (if o.subtracts then m -ℤ n else m +ℤ n)) (opened p.0) leaves;
       }))))
       (λ made gave. sum_explained first terms (before ++ p.0 ∷ []) more begun made begins further (chain_goes_on added (operand s) begun so_far made before p.0 came gave))
 
@@ -191,7 +195,7 @@ module _ (s : Scene) where
   form (e.ColumnProperty table column property) =
       (three_values (e.ColumnProperty table.0 column.0 property.0) table column property _ (inl refl) (inr (inl refl)) (inr (inr refl)), ok_caused _)
   form (e.IfNull a b) = (two_values (e.IfNull a.0 b.0) a b _ (inl refl) (inr refl), ok_caused _)
-  form (e.Scalar x) = (inherit (e.Scalar x.0) (IsScalarValue x.0) (scalar s x.0) (λ y is. is) x.1, ok_caused _)
+  form (e.Scalar x) = (inherit (e.Scalar x.0) (Contains x.0.version.values) (scalar s x.0) (λ y is. is) x.1, ok_caused _)
   form (e.Negative a) = (
     after_caused (value s a.0) _ (of_value (e.Negative a.0) a refl)
         (λ x comes. negative_caused x (λ n number leaves. own (e.Negative a.0) (record { number = n; comes = comes ∙ ap (λ (v : Value). Ok v) number; leaves = leaves }))),
@@ -230,10 +234,10 @@ module _ (s : Scene) where
   under : (Is : BoundExpr → Type 0) (p : E) → Is p.0 → Explained Is (value s p.0)
   under Is p is = weaker (value s p.0) (λ refusal u. record { is = u.is; top = u.top; under = subst Is (sym u.under) is; at = u.at }) p.1.value_is
 
-  version : (y : BoundRowVersion-F E R S T) → Explained (IsKeyValue (roll-BoundRowVersion (version_parts y))) (row_at (version_parts y))
+  version : (y : BoundRowVersion-F E R S T) → Explained (Contains (roll-BoundRowVersion (version_parts y)).values) (row_at (version_parts y))
   version y =
-      let Is : BoundExpr → Type 0 = IsKeyValue (roll-BoundRowVersion (version_parts y)) in
-      then_caused _ _ (then_caused _ _ (each_explained Is listed [] y.values (λ p is values. then_caused _ _ (under Is p (version_parts y, refl, is)) (λ v. ok_caused _))) (λ values. ok_caused _))
+      let Is : BoundExpr → Type 0 = Contains (roll-BoundRowVersion (version_parts y)).values in
+      then_caused _ _ (then_caused _ _ (each_explained Is listed [] y.values (λ p is values. then_caused _ _ (under Is p is) (λ v. ok_caused _))) (λ values. ok_caused _))
       (λ key. ok_caused _)
 
   abbrev scalar_parts : BoundScalar-F E R S T → BoundScalar-F BoundExpr BoundRowVersion BoundScalar BoundTerm
@@ -242,10 +246,10 @@ module _ (s : Scene) where
   abbrev shown_at : BoundScalar-F BoundExpr BoundRowVersion BoundScalar BoundTerm → Answer Value
   shown_at x = scalar_rule (map-BoundScalar BoundExpr BoundRowVersion BoundScalar BoundTerm Meaning (Answer (Key × VersionRow)) (Answer Value) Operand (meaning s) (row_version s) (scalar s) (operand s) x)
 
-  shown : (y : BoundScalar-F E R S T) → Explained (IsScalarValue (roll-BoundScalar (scalar_parts y))) (shown_at (scalar_parts y))
+  shown : (y : BoundScalar-F E R S T) → Explained (Contains (roll-BoundScalar (scalar_parts y)).version.values) (shown_at (scalar_parts y))
   shown y =
-      let here : Explained (IsScalarValue (roll-BoundScalar (scalar_parts y))) (row_version s y.version.0) =
-      weaker (row_version s y.version.0) (λ refusal u. record { is = u.is; top = u.top; under = (scalar_parts y, refl, u.under); at = u.at }) y.version.1 in
+      let here : Explained (Contains (roll-BoundScalar (scalar_parts y)).version.values) (row_version s y.version.0) =
+      weaker (row_version s y.version.0) (λ refusal u. record { is = u.is; top = u.top; under = u.under; at = u.at }) y.version.1 in
       then_caused _ _ here (λ found. ok_caused _)
 
   abbrev term_parts : BoundTerm-F E R S T → BoundTerm-F BoundExpr BoundRowVersion BoundScalar BoundTerm
@@ -254,8 +258,8 @@ module _ (s : Scene) where
   abbrev operand_at : BoundTerm-F BoundExpr BoundRowVersion BoundScalar BoundTerm → Operand
   operand_at x = operand_rule (map-BoundTerm BoundExpr BoundRowVersion BoundScalar BoundTerm Meaning (Answer (Key × VersionRow)) (Answer Value) Operand (meaning s) (row_version s) (scalar s) (operand s) x)
 
-  term : (y : BoundTerm-F E R S T) → Explained (IsTermValue (roll-BoundTerm (term_parts y))) (operand_at (term_parts y)).meaning.value
-  term y = under (IsTermValue (roll-BoundTerm (term_parts y))) y.value (term_parts y, refl, refl)
+  term : (y : BoundTerm-F E R S T) → Explained (Whole (roll-BoundTerm (term_parts y)).value) (operand_at (term_parts y)).meaning.value
+  term y = under (Whole (roll-BoundTerm (term_parts y)).value) y.value refl
 
   -- ---- the whole
 
@@ -267,27 +271,27 @@ module _ (s : Scene) where
         truth_is = subst (λ (m : Meaning). Explained (Whole (roll-BoundExpr x)) m.truth) (sym same) of.1;
       }
 
-  version_rolled : (x : BoundRowVersion-F BoundExpr BoundRowVersion BoundScalar BoundTerm) → Explained (IsKeyValue (roll-BoundRowVersion x)) (row_at x) → OfRowVersion (roll-BoundRowVersion x)
+  version_rolled : (x : BoundRowVersion-F BoundExpr BoundRowVersion BoundScalar BoundTerm) → Explained (Contains (roll-BoundRowVersion x).values) (row_at x) → OfRowVersion (roll-BoundRowVersion x)
   version_rolled x of =
-      subst (λ (r : Answer (Key × VersionRow)). Explained (IsKeyValue (roll-BoundRowVersion x)) r)
+      subst (λ (r : Answer (Key × VersionRow)). Explained (Contains (roll-BoundRowVersion x).values) r)
       (sym (fold-roll-BoundRowVersion Meaning (Answer (Key × VersionRow)) (Answer Value) Operand (meaning_rule s) (row_version_rule s) scalar_rule operand_rule x)) of
 
-  scalar_rolled : (x : BoundScalar-F BoundExpr BoundRowVersion BoundScalar BoundTerm) → Explained (IsScalarValue (roll-BoundScalar x)) (shown_at x) → OfScalar (roll-BoundScalar x)
+  scalar_rolled : (x : BoundScalar-F BoundExpr BoundRowVersion BoundScalar BoundTerm) → Explained (Contains (roll-BoundScalar x).version.values) (shown_at x) → OfScalar (roll-BoundScalar x)
   scalar_rolled x of =
-      subst (λ (a : Answer Value). Explained (IsScalarValue (roll-BoundScalar x)) a)
+      subst (λ (a : Answer Value). Explained (Contains (roll-BoundScalar x).version.values) a)
       (sym (fold-roll-BoundScalar Meaning (Answer (Key × VersionRow)) (Answer Value) Operand (meaning_rule s) (row_version_rule s) scalar_rule operand_rule x)) of
 
-  term_rolled : (x : BoundTerm-F BoundExpr BoundRowVersion BoundScalar BoundTerm) → Explained (IsTermValue (roll-BoundTerm x)) (operand_at x).meaning.value → OfTerm (roll-BoundTerm x)
+  term_rolled : (x : BoundTerm-F BoundExpr BoundRowVersion BoundScalar BoundTerm) → Explained (Whole (roll-BoundTerm x).value) (operand_at x).meaning.value → OfTerm (roll-BoundTerm x)
   term_rolled x of =
-      subst (λ (o : Operand). Explained (IsTermValue (roll-BoundTerm x)) o.meaning.value)
+      subst (λ (o : Operand). Explained (Whole (roll-BoundTerm x).value) o.meaning.value)
       (sym (fold-roll-BoundTerm Meaning (Answer (Key × VersionRow)) (Answer Value) Operand (meaning_rule s) (row_version_rule s) scalar_rule operand_rule x)) of
 
   every : (x : BoundExpr) → OfExpr x
   every = ind-BoundExpr OfExpr OfRowVersion OfScalar OfTerm
       (λ x y is. expr_rolled x (subst OfForm is (form y)))
-      (λ x y is. version_rolled x (subst (λ x. Explained (IsKeyValue (roll-BoundRowVersion x)) (row_at x)) is (version y)))
-      (λ x y is. scalar_rolled x (subst (λ x. Explained (IsScalarValue (roll-BoundScalar x)) (shown_at x)) is (shown y)))
-      (λ x y is. term_rolled x (subst (λ x. Explained (IsTermValue (roll-BoundTerm x)) (operand_at x).meaning.value) is (term y)))
+      (λ x y is. version_rolled x (subst (λ x. Explained (Contains (roll-BoundRowVersion x).values) (row_at x)) is (version y)))
+      (λ x y is. scalar_rolled x (subst (λ x. Explained (Contains (roll-BoundScalar x).version.values) (shown_at x)) is (shown y)))
+      (λ x y is. term_rolled x (subst (λ x. Explained (Whole (roll-BoundTerm x).value) (operand_at x).meaning.value) is (term y)))
 
   told : (x : BoundExpr) (refusal : Refusal) → OverflowUnder s (Whole x) refusal → (refusal ≡ Overflow) × Overflows s x
   told x refusal u = (u.is, subst (Overflows s) u.under u.at)

@@ -4,3 +4,4 @@ pub mod Evaluation
 pub mod Answers
 pub mod Fitting
 pub mod Writes
+pub mod Exactly

@@ -6,7 +6,7 @@ use Rattle.ct_types.specs.declared.bound.BoundExpr.TheOpen as e
 use Rattle.ct_types.specs.declared.bound.BoundTerm.{BoundTerm}
 use Rattle.ct_types.specs.declared.value.Value.{Value}
 use Rattle.ct_types.specs.declared.value.Value.TheVariants.{Int}
-use Rattle.ct_expr.specs.Meaning.{Scene, value, product, sum, operand}
+use Rattle.ct_expr.specs.Meaning.{Scene, value, product, sum}
 use Rattle.ct_refusal_laws.specs.Parts.{Form, HasPart}
 
 -- the sign of a number does
@@ -38,8 +38,8 @@ pub record SumLeaves (s : Scene) (first : BoundExpr) (terms : List BoundTerm) : 
   pub number : ℤ
   pub begins : value s first ≡ Ok begun
   pub made_is : sum s begun before ≡ Ok (Int made)
-  pub comes : (operand s term).meaning.value ≡ Ok (Int number)
-  pub leaves : ¬ IsBigInt (if (operand s term).subtracts then made -ℤ number else made +ℤ number)
+  pub comes : value s term.value ≡ Ok (Int number)
+  pub leaves : ¬ IsBigInt (if term.subtracts then made -ℤ number else made +ℤ number)
 
 -- what a form makes of its operands has no 64 bits
 abbrev pub Leaves : Scene → Form → Type 0

@@ -1,10 +1,15 @@
-ghost use Rattle.ct_refusal_laws.specs.Laws.{ValuesRefuseOverflow, TruthsRefuseOverflow, AnswersRefuseOverflow, WritesRefuse};
+ghost use Rattle.ct_refusal_laws.specs.Laws.{ValuesRefuseOverflow, TruthsRefuseOverflow, OverflowsAreRefused, AnswersRefuseOverflow, WritesRefuse};
 
 /// An expression that comes to no value, and a condition that comes to no truth, refuses nothing but Overflow; and then a part
 /// of it is a sum, a difference, a product or a sign whose number leaves 64 bits.
 pub fn evaluation_refuses_overflow()
     ensures values { ValuesRefuseOverflow }
     ensures truths { TruthsRefuseOverflow }
+{}
+
+/// A well-formed expression of which a number leaves 64 bits at some part comes to Overflow. So it does exactly where such a part is.
+pub fn overflows_are_refused()
+    ensures { OverflowsAreRefused }
 {}
 
 /// A SELECT that has no answer refuses nothing but Overflow; and then a number leaves 64 bits in ON on a pair of rows, in WHERE

@@ -3,4 +3,6 @@
 
 mod laws;
 
-pub use laws::{answers_refuse_overflow, evaluation_refuses_overflow, writes_refuse};
+pub use laws::{
+    answers_refuse_overflow, evaluation_refuses_overflow, overflows_are_refused, writes_refuse,
+};

@@ -7,12 +7,13 @@ use Rattle.ct_model.specs.Apply.{no_db}
 use Rattle.ct_model_laws.proofs.InTurn.{no_db_valid}
 use Rattle.ct_core.specs.Stands.{CoreState, Stands}
 use Rattle.ct_types.specs.declared.command.Journaled.{Journaled}
-use Rattle.ct_machine.specs.Machine.{Machine, opening}
-use Rattle.ct_machine.specs.Play.{Follows, IsPlay, end_of, is_memory}
+use Rattle.ct_state.specs.Machine.{Machine, opening}
+use Rattle.ct_machine.specs.Play.{Follows, IsPlay, end_of}
+use Rattle.ct_state.specs.Replies.{is_memory}
 use Rattle.ct_machine.specs.Play as play
 use Rattle.ct_machine_laws.specs.Sound.{IsSound, StaySound}
 use Rattle.ct_machine.specs.Fits.{RowsFit}
-use Rattle.ct_machine.specs.Seen.{seen_by}
+use Rattle.ct_state.specs.Seen.{seen_by}
 use Rattle.ct_machine_laws.proofs.Soundness.{opens_sound}
 use Rattle.ct_script.specs.declared.script.Lane.{Lane}
 use Rattle.ct_script.specs.declared.script.Phase.{Phase}

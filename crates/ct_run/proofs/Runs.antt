@@ -6,7 +6,7 @@ use Rattle.std.proofs.lemmas.List.Folds.{list_any-append}
 use Rattle.ct_faults.specs.Bytes.{most_bytes, TakesTooMany}
 use Rattle.ct_types.specs.declared.command.Journaled.{Journaled}
 use Rattle.ct_model.specs.Apply.{no_db}
-use Rattle.ct_machine.specs.Machine.{opening}
+use Rattle.ct_state.specs.Machine.{opening}
 use Rattle.ct_machine.specs.Play.{IsWhole}
 use Rattle.ct_machine.specs.Transcript.{run_text}
 use Rattle.ct_machine.proofs.Plays.{whole_plays}

@@ -2,7 +2,7 @@
 use Rattle.std.specs.Prelude.{◌≡◌, List, ◌⊎◌}
 use Rattle.std.specs.Io.KnownBytes.{Keeps}
 use Rattle.ct_types.specs.declared.command.Journaled.{Journaled}
-use Rattle.ct_machine.specs.Machine.{Machine}
+use Rattle.ct_state.specs.Machine.{Machine}
 use Rattle.ct_machine.specs.Play.{IsPlay, end_of}
 use Rattle.ct_machine_laws.specs.Sound.{IsSound, StaySound}
 use Rattle.ct_core.specs.Stands.{CoreState, Stands}

@@ -7,7 +7,7 @@ use Rattle.ct_types.specs.declared.command.Journaled.{Journaled}
 use Rattle.ct_faults.specs.Bytes.{most_bytes, AppendsFront, TakesAtMost, TakesTooMany}
 use Rattle.ct_faults.specs.Causes.{Rose}
 use Rattle.ct_model.specs.Apply.{no_db}
-use Rattle.ct_machine.specs.Machine.{opening}
+use Rattle.ct_state.specs.Machine.{opening}
 use Rattle.ct_machine.specs.Play.{IsPlay, IsWhole}
 use Rattle.ct_machine.specs.Transcript.{run_text}
 use Rattle.ct_machine_laws.specs.Sound.{StaySound}

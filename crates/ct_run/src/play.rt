@@ -2,7 +2,7 @@ ghost use Rattle.std.specs.Prelude.{◌≡◌, IfOk};
 ghost use Rattle.ct_faults.specs.Bytes.{most_bytes};
 ghost use Rattle.ct_script.specs.Size.{IsLaneWithin, IsPhaseWithin, IsWithin};
 ghost use Rattle.ct_model.specs.Apply.{no_db};
-ghost use Rattle.ct_machine.specs.Machine.{opening};
+ghost use Rattle.ct_state.specs.Machine.{opening};
 ghost use Rattle.ct_core.specs.Stands.{Stands};
 ghost use Rattle.ct_run.specs.Schedule.{numbered_in_lane, numbered_in};
 ghost use Rattle.ct_print.specs.Growing.{with_phase};

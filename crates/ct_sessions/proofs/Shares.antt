@@ -13,8 +13,8 @@ use Rattle.ct_database.proofs.RowsPut.{stored_after}
 use Rattle.ct_session.specs.Sessions.{SessionState}
 use Rattle.ct_session.specs.declared.tran.Tran.{Tran}
 use Rattle.ct_session.specs.declared.tran.Tran.TheVariants as tran
-use Rattle.ct_machine.specs.Machine.{Machine, db_at, db_of}
-use Rattle.ct_machine.specs.Seen.{with_writes}
+use Rattle.ct_state.specs.Machine.{Machine, db_at, db_of}
+use Rattle.ct_state.specs.Seen.{with_writes}
 use Rattle.ct_sessions.specs.declared.own.Own.{Own}
 use Rattle.ct_sessions.specs.Owns.{IsOwnOf, IsShareOf}
 use Rattle.ct_sessions.specs.Seats.{SeatState, needs_own, reads_at}

@@ -10,8 +10,8 @@ use Rattle.ct_conflicts.specs.Later.{IsLater}
 use Rattle.ct_conflicts.specs.declared.stamps.TableStamps.{TableStamps}
 use Rattle.ct_locks.specs.Holders.{Lock}
 use Rattle.ct_session.specs.Sessions.{SessionState}
-use Rattle.ct_machine.specs.Machine.{Machine, db_at, with_session}
-use Rattle.ct_machine.specs.Seen.{with_writes}
+use Rattle.ct_state.specs.Machine.{Machine, db_at, with_session}
+use Rattle.ct_state.specs.Seen.{with_writes}
 use Rattle.ct_sessions.specs.declared.own.Own.{Own}
 use Rattle.ct_sessions.specs.declared.seat.Seat.{Seat}
 use Rattle.ct_sessions.specs.Changes.{HasState, Turns, waiting}

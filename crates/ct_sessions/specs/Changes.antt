@@ -2,8 +2,7 @@
 use Rattle.std.specs.Prelude.{◌≡◌, ℕ, ◌==◌, List, Some, if◌then◌else◌}
 use Rattle.ct_types.specs.declared.entry.Write.{Write}
 use Rattle.ct_session.specs.Sessions.{SessionState, pended}
-use Rattle.ct_machine.specs.Machine.{Machine, with_session}
-use Rattle.ct_machine.specs.Step.{xdes_or}
+use Rattle.ct_state.specs.Machine.{Machine, with_session, xdes_or}
 use Rattle.ct_sessions.specs.declared.seat.Seat.{Seat}
 use Rattle.ct_sessions.specs.Holds.{Holds}
 use Rattle.ct_sessions.specs.Seats.{SessionsState, own_in, state_in}

@@ -5,7 +5,7 @@ use Rattle.ct_types.specs.declared.entry.Entry.{Entry}
 use Rattle.ct_conflicts.specs.Later.{IsLater}
 use Rattle.ct_conflicts.specs.declared.stamps.TableStamps.{TableStamps}
 use Rattle.ct_session.specs.Sessions.{SessionState}
-use Rattle.ct_machine.specs.Machine.{Machine}
+use Rattle.ct_state.specs.Machine.{Machine}
 use Rattle.ct_sessions.specs.Owns.{IsShareOf}
 use Rattle.ct_sessions.specs.Seats.{SessionsState, SeatState, any_view, seat_at}
 

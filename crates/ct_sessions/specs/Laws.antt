@@ -1,6 +1,6 @@
 -- What sessions ask of the machine that they are the sessions of. This project's own.
 use Rattle.std.specs.Prelude.{◌≡◌, ℕ}
-use Rattle.ct_machine.specs.Machine.{Machine}
+use Rattle.ct_state.specs.Machine.{Machine}
 use Rattle.ct_sessions.specs.Holds.{Holds}
 use Rattle.ct_sessions.specs.Seats.{SessionsState}
 

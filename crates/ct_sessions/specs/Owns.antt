@@ -5,8 +5,8 @@ use Rattle.ct_types.specs.declared.entry.Write.{Write}
 use Rattle.ct_model.specs.declared.db.Db.{Db}
 use Rattle.ct_database.specs.Waiting.{AreStoredIn}
 use Rattle.ct_session.specs.declared.tran.Tran.TheVariants as tran
-use Rattle.ct_machine.specs.Machine.{Machine, db_at}
-use Rattle.ct_machine.specs.Seen.{with_writes}
+use Rattle.ct_state.specs.Machine.{Machine, db_at}
+use Rattle.ct_state.specs.Seen.{with_writes}
 use Rattle.ct_sessions.specs.declared.own.Own.{Own}
 use Rattle.ct_sessions.specs.Seats.{SessionsState, SeatState, needs_own, own_in, reads_at, seat_at, state_in}
 

@@ -4,7 +4,7 @@ use Rattle.ct_model.specs.declared.db.Db.{Db}
 use Rattle.ct_session.specs.Sessions.{SessionState}
 use Rattle.ct_session.specs.declared.tran.Tran.{Tran}
 use Rattle.ct_session.specs.declared.tran.Tran.TheVariants as tran
-use Rattle.ct_machine.specs.Machine.{Machine, db_of}
+use Rattle.ct_state.specs.Machine.{Machine, db_of}
 use Rattle.ct_sessions.specs.declared.own.Own.{Own}
 use Rattle.ct_sessions.specs.declared.seat.Seat.{Seat}
 use Rattle.ct_sessions.specs.Holds.{IsSeatOf}

@@ -1,6 +1,6 @@
 ghost use Rattle.std.specs.Prelude.{◌≡◌, ◌+◌, ◌^◌, ◌<◌, IfOk};
 ghost use Rattle.ct_types.specs.declared.entry.Entry.{Entry};
-ghost use Rattle.ct_machine.specs.Machine.{Machine};
+ghost use Rattle.ct_state.specs.Machine.{Machine};
 ghost use Rattle.ct_sessions.specs.Holds.{Holds, IsNoted, with_entry};
 
 use crate::kept::forget;

@@ -1,6 +1,6 @@
 ghost use Rattle.std.specs.Prelude.{◌≡◌, ◌≤◌, true, drop, length, IfOk, IsOk, OnOk, OnErr};
 ghost use Rattle.ct_database.specs.Waiting.{AreStoredIn};
-ghost use Rattle.ct_machine.specs.Seen.{with_writes};
+ghost use Rattle.ct_state.specs.Seen.{with_writes};
 ghost use Rattle.ct_sessions.specs.Seats.{has_writes as has_some, is_snapshot as under_snapshot, needs_own as needs, reads_at as read_at};
 ghost use Rattle.ct_sessions.specs.Steps.{is_at, own_at as own_of, share_at};
 

@@ -2,7 +2,7 @@ ghost use Rattle.std.specs.Prelude.{◌≡◌, ◌≤◌, ◌<◌, ◌≢◌, le
 ghost use Rattle.std.specs.List.{position_or_len};
 ghost use Rattle.ct_locks.specs.Changes.{with_writes_taken};
 ghost use Rattle.ct_session.specs.Sessions.{pended};
-ghost use Rattle.ct_machine.specs.Step.{xdes_or};
+ghost use Rattle.ct_state.specs.Machine.{xdes_or};
 ghost use Rattle.ct_sessions.specs.Changes.{waiting};
 ghost use Rattle.ct_sessions.specs.Seats.{is_of, seat_at, seat_state};
 ghost use Rattle.ct_sessions.specs.Steps.{HaveSeats, TurnsSeat};

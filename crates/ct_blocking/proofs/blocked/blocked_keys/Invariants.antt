@@ -1,6 +1,6 @@
 use Rattle.std.proofs.Common.{◌≡◌, ℕ, drop}
 use Rattle.ct_session.specs.Sessions.{SessionState}
-use Rattle.ct_machine.specs.Holding.{blocked_keys}
+use Rattle.ct_state.specs.Holding.{blocked_keys}
 use Rattle.ct_blocking.specs.Locked.{AreLocked}
 use Rattle.ct_blocking.proofs.blocked.blocked_keys.Given as goal
 

@@ -4,8 +4,8 @@ use Rattle.ct_types.specs.declared.refusal.Refusal.TheVariants.{Exhausted}
 use Rattle.ct_session.specs.Sessions.{SessionState, ended}
 use Rattle.ct_machine.specs.declared.decision.Decision.{Decision}
 use Rattle.ct_machine.specs.declared.decision.Decision.TheVariants.{Commits, Refuses}
-use Rattle.ct_machine.specs.Machine.{Machine}
-use Rattle.ct_machine.specs.Step.{entry_of, has_number, has_room, machine_after, most_number, next_xdes, reply_of, settled}
+use Rattle.ct_state.specs.Machine.{Machine, next_xdes}
+use Rattle.ct_machine.specs.Step.{entry_of, has_number, has_room, machine_after, most_number, reply_of, settled}
 use Rattle.ct_sessions.specs.Changes.{HasState}
 use Rattle.ct_sessions.specs.declared.seat.Seat.{Seat}
 use Rattle.ct_sessions.specs.Holds.{with_entry}

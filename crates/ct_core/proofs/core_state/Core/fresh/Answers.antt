@@ -3,7 +3,7 @@ use Rattle.ct_database.specs.Waiting.{AreStoredIn}
 use Rattle.ct_model.specs.Apply.{no_db}
 use Rattle.ct_model.specs.declared.db.Db.{Db}
 use Rattle.ct_session.specs.Sessions.{SessionState}
-use Rattle.ct_machine.specs.Machine.{opening}
+use Rattle.ct_state.specs.Machine.{opening}
 use Rattle.ct_core.specs.Range.{IsInRange}
 use Rattle.ct_core.proofs.core_state.Core.fresh.Goals as goal
 

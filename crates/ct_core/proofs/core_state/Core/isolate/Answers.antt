@@ -1,6 +1,6 @@
 use Rattle.std.proofs.Common.{refl, sym, subst}
 use Rattle.ct_session.specs.Sessions.{SessionState}
-use Rattle.ct_machine.specs.Machine.{Machine, with_session}
+use Rattle.ct_state.specs.Machine.{Machine, with_session}
 use Rattle.ct_core.specs.Stands.{CoreState, Stands}
 use Rattle.ct_core.proofs.Turning.{turned_stands}
 use Rattle.ct_core.proofs.core_state.Core.isolate.Goals as goal

@@ -3,8 +3,8 @@ use Rattle.ct_types.specs.declared.refusal.Refusal.TheVariants.{Exhausted}
 use Rattle.ct_session.specs.Sessions.{SessionState}
 use Rattle.ct_machine.specs.declared.decision.Decision.{Decision}
 use Rattle.ct_machine.specs.declared.decision.Decision.TheVariants.{Pends, Refuses}
-use Rattle.ct_machine.specs.Machine.{Machine, with_session}
-use Rattle.ct_machine.specs.Step.{machine_after, most_number, next_xdes, reply_of, settled, viewed, xdes_or}
+use Rattle.ct_state.specs.Machine.{Machine, with_session, next_xdes, xdes_or}
+use Rattle.ct_machine.specs.Step.{machine_after, most_number, reply_of, settled, viewed}
 use Rattle.ct_sessions.specs.Changes.{waiting}
 use Rattle.ct_sessions.specs.Owns.{MayView, own_or}
 use Rattle.ct_sessions.specs.Seats.{own_in, state_in}

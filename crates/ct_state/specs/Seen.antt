@@ -1,6 +1,6 @@
 -- What a statement sees: the database from which its session reads, with the writes of its own transaction that wait, and the
 -- session's variables. The levels are T-SQL's; what each reads, and when a view is taken, is this project's own.
-use Rattle.std.specs.Prelude.{ℕ, Bool, true, false, List, length, Option, None, Some}
+use Rattle.std.specs.Prelude.{Bool, true, false, List, length, None, Some}
 use Rattle.ct_types.specs.declared.catalogue.Variable.{Variable}
 use Rattle.ct_types.specs.declared.entry.Act.TheVariants.{Commit}
 use Rattle.ct_types.specs.declared.entry.Write.{Write}
@@ -12,7 +12,7 @@ use Rattle.ct_model.specs.Apply.{tables_after}
 use Rattle.ct_session.specs.Sessions.{SessionState}
 use Rattle.ct_session.specs.declared.tran.Tran.{Tran}
 use Rattle.ct_session.specs.declared.tran.Tran.TheVariants as tran
-use Rattle.ct_machine.specs.Machine.{Machine, db_of, db_at}
+use Rattle.ct_state.specs.Machine.{Machine, db_of, db_at}
 
 -- ---- views
 

@@ -1,5 +1,5 @@
 -- The machine: the database at its opening, the entries since, the sessions, and what the next statement needs. This project's own.
-use Rattle.std.specs.Prelude.{ℕ, ◌+◌, ◌==◌, List, [], take, if◌then◌else◌}
+use Rattle.std.specs.Prelude.{ℕ, ◌+◌, ◌==◌, List, [], take, Option, None, Some, if◌then◌else◌}
 use Rattle.ct_types.specs.declared.entry.Entry.{Entry}
 use Rattle.ct_model.specs.declared.db.Db.{Db}
 use Rattle.ct_model.specs.Apply.{replay}
@@ -33,3 +33,15 @@ opening db = record { first = db; past = []; now = db.time; next = db.last_xdes 
 -- the machine with another state of one session
 abbrev pub with_session : Machine → ℕ → SessionState → Machine
 with_session m number session = record m { sessions = λ other. if other == number then session else m.sessions other }
+
+-- ---- the numbers of transactions
+
+-- the number that a transaction has drawn, else the next one
+abbrev pub xdes_or : ℕ → Option ℕ → ℕ
+xdes_or next None = next
+xdes_or next (Some xdes) = xdes
+
+-- the next number once a transaction has one: the same where it was drawn before
+abbrev pub next_xdes : ℕ → Option ℕ → ℕ
+next_xdes next None = next + 1
+next_xdes next (Some xdes) = next

@@ -1,0 +1,4 @@
+pub mod Following
+pub mod Laws
+pub mod Reading
+pub mod Writing

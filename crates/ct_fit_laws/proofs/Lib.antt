@@ -1,0 +1,4 @@
+pub mod Rows
+pub mod Variables
+pub mod Keeping
+pub mod Meaning

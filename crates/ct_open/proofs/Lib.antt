@@ -1,0 +1,3 @@
+pub mod Condenses
+pub mod Opens
+pub mod Readies

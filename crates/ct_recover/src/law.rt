@@ -1,0 +1,16 @@
+ghost use Rattle.ct_recover.specs.Laws.{StandsIsValid, SettledStands, SettlingStands};
+
+/// What a disk stands for is a valid database.
+pub fn stands_is_valid()
+    ensures { StandsIsValid }
+{}
+
+/// A disk that is settled stands for what it stood for.
+pub fn settled_stands()
+    ensures { SettledStands }
+{}
+
+/// What a crash may leave of the settling is what it may have left before, or stands for what reads gave.
+pub fn settling_stands()
+    ensures { SettlingStands }
+{}

@@ -1,0 +1,5 @@
+pub mod Yields
+pub mod Lexemes
+pub mod Trees
+pub mod Expressions
+pub mod Statements
