@@ -1,16 +1,15 @@
 -- The key that a list of pairs begins at: what a search asks of it, and what a change makes of it.
 use Rattle.std.specs.Prelude.{◌==◌, Result, Ok, Err, OnOk, OnErr}
-use Rattle.std.proofs.Common.{◌≡◌, ℕ, ◌<◌, ◌≤◌, Bool, true, false, List, [], ◌∷◌, ◌++◌, length, drop, get_or, filter, refl, sym, ap, ◌∙◌, subst, inl, inr, arith}
+use Rattle.std.proofs.Common.{◌≡◌, ℕ, ◌<◌, ◌≤◌, true, false, List, [], ◌∷◌, ◌++◌, length, drop, get_or, filter, refl, sym, ap, ◌∙◌, subst, inl, inr, arith}
 use Rattle.std.proofs.lemmas.Bool.Decides.{nat_tests}
 use Rattle.std.specs.declared.cmp.Ordering.{Ordering}
 use Rattle.std.specs.declared.cmp.Ordering.TheVariants.{Less, Equal, Greater}
 use Rattle.std.specs.Ordering.{is_lt, is_eq}
-use Rattle.std.specs.declared.sync.Arc.{Arc}
 use Rattle.ct_types.specs.Order.{key_cmp}
 use Rattle.ct_types.proofs.Orders.{key_cmp_exact}
 use Rattle.ct_types.specs.declared.value.Key.{Key}
 use Rattle.ct_ptree.specs.declared.pair.Pair.{Pair}
-use Rattle.ct_ptree.specs.Pairs.{Ascends, AreFilled, BeginsAt, is_below, is_above, joined, start_cmp, values, with_pair, without}
+use Rattle.ct_ptree.specs.Pairs.{Ascends, AreFilled, BeginsAt, is_below, is_above, joined, start_cmp, with_pair, without}
 use Rattle.ct_ptree.proofs.Rising.{turned, flipped, less_of, above_rest}
 use Rattle.ct_ptree.proofs.Around.{lows_of_high, highs_of_high}
 
@@ -27,15 +26,6 @@ equal_of : (o : Ordering) → is_eq o ≡ true → o ≡ Equal
 equal_of Less e = cc
 equal_of Equal e = refl
 equal_of Greater e = cc
-
--- what a comparison through pointers tells of the keys
-pub told_lt : {V : Type 0} (p q a b : Pair V) (o : Ordering) (t v : Bool) → p ≡ a → q ≡ b → o ≡ key_cmp p.key q.key → t ≡ is_lt o → t ≡ v
-    → is_lt (key_cmp a.key b.key) ≡ v
-told_lt p q a b o t v first second is told so = cc
-
-pub told_eq : {V : Type 0} (p a : Pair V) (key : Key) (o : Ordering) (t v : Bool) → p ≡ a → o ≡ key_cmp p.key key → t ≡ is_eq o → t ≡ v
-    → is_eq (key_cmp a.key key) ≡ v
-told_eq p a key o t v first is told so = cc
 
 module _ {V : Type 0} where
   -- the key beside a list stands to another key as the list does
@@ -144,12 +134,11 @@ module _ {V : Type 0} where
       single_second next a [] (subst (λ l. length l ≡ 1) is (is_one (length x) single)) tt
   level_single next (a ∷ b ∷ xss) x few some is single = absurd (omega arith)
 
-module _ {V Z : Type 0} where
-  pub first_value : (xs : List (Arc (Pair V) Z)) (it : Arc (Pair V) Z) → 0 < length xs → it ≡ get_or xs 0 it → BeginsAt it.value.key (values xs)
-  first_value [] it some is = absurd (omega arith)
-  first_value (a ∷ xs) it some is = ap (λ (p : Arc (Pair V) Z). p.value.key) (sym is)
+  pub first_pair : (xs : List (Pair V)) (it : Pair V) → 0 < length xs → it ≡ get_or xs 0 it → BeginsAt it.key xs
+  first_pair [] it some is = absurd (omega arith)
+  first_pair (x ∷ xs) it some is = ap (λ (p : Pair V). p.key) (sym is)
 
-  pub second_value : (xs : List (Arc (Pair V) Z)) (it : Arc (Pair V) Z) → 1 < length xs → it ≡ get_or xs 1 it → BeginsAt it.value.key (drop 1 (values xs))
-  second_value [] it some is = absurd (omega arith)
-  second_value (a ∷ []) it some is = absurd (omega arith)
-  second_value (a ∷ b ∷ xs) it some is = ap (λ (p : Arc (Pair V) Z). p.value.key) (sym is)
+  pub second_pair : (xs : List (Pair V)) (it : Pair V) → 1 < length xs → it ≡ get_or xs 1 it → BeginsAt it.key (drop 1 xs)
+  second_pair [] it some is = absurd (omega arith)
+  second_pair (x ∷ []) it some is = absurd (omega arith)
+  second_pair (x ∷ y ∷ xs) it some is = ap (λ (p : Pair V). p.key) (sym is)

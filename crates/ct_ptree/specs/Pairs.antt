@@ -1,11 +1,10 @@
 -- An ordered map as the list of its pairs, in rising order of keys: its look-ups and changes. This project's own.
-use Rattle.std.specs.Prelude.{◌≡◌, ℕ, ◌<◌, Bool, not, List, [], ◌∷◌, ◌++◌, length, map, filter, Option, None, Some, slice_index_or}
+use Rattle.std.specs.Prelude.{◌≡◌, ℕ, ◌<◌, Bool, not, List, [], ◌∷◌, ◌++◌, length, filter, Option, None, Some, slice_index_or}
 use Rattle.std.specs.List.{AllByRecursion, flat_map, find}
 use Rattle.std.specs.Option.{option_map}
 use Rattle.std.specs.declared.cmp.Ordering.{Ordering}
 use Rattle.std.specs.declared.cmp.Ordering.TheVariants.{Less, Greater}
 use Rattle.std.specs.Ordering.{is_lt, is_eq, is_gt}
-use Rattle.std.specs.declared.sync.Arc.{Arc}
 use Rattle.ct_types.specs.Order.{key_cmp}
 use Rattle.ct_types.specs.declared.value.Key.{Key}
 use Rattle.ct_ptree.specs.declared.pair.Pair.{Pair}
@@ -84,11 +83,6 @@ module _ {V : Type 0} where
   IsFilled None = Unit {0}
   IsFilled (Some pairs) = 0 < length pairs
 
-module _ {V Z : Type 0} where
-  -- what the pointers of a leaf point to
-  abbrev pub values : List (Arc (Pair V) Z) → List (Pair V)
-  values = map (λ (it : Arc (Pair V) Z). it.value)
-
   -- the value of a key is that of the pair at this place
-  abbrev pub IsFoundAt : List (Arc (Pair V) Z) → Key → ℕ → Type 0
-  IsFoundAt pairs key place = (it : Arc (Pair V) Z) → it ≡ slice_index_or pairs place it → value_at (values pairs) key ≡ Some it.value.value
+  abbrev pub IsFoundAt : List (Pair V) → Key → ℕ → Type 0
+  IsFoundAt pairs key place = (it : Pair V) → it ≡ slice_index_or pairs place it → value_at pairs key ≡ Some it.value

@@ -1,11 +1,11 @@
 ghost use Rattle.std.specs.Prelude.{◌≡◌, ◌==◌, ◌+◌, ◌<◌, ◌++◌, ◌∷◌, [], IfOk, OnOk, OnErr, length, take, drop, slice_index_or};
 ghost use Rattle.std.specs.List.{remove};
 ghost use Rattle.std.specs.Option.{IfSome, option_copied};
-ghost use Rattle.ct_ptree.specs.Pairs.{Ascends, AreFilled, AllBelow, AllAbove, joined, values, value_at, with_pair, without, from_key, start_cmp, BeginsAt, AreHalves};
+ghost use Rattle.ct_ptree.specs.Pairs.{Ascends, AreFilled, AllBelow, AllAbove, joined, value_at, with_pair, without, from_key, start_cmp, BeginsAt, AreHalves};
 
 use crate::leaf::Leaf;
-use crate::pair::Pair;
-use ct_types::{Key, Memory, cmp_key};
+use crate::slot::{Slot, Sought};
+use ct_types::Memory;
 use std::alloc::Global;
 use std::cmp::Ordering;
 use std::marker::Model;
@@ -21,7 +21,7 @@ const FEW: usize = 64;
 /// branches reads no list.
 #[derive(Drop)]
 pub(crate) struct Branch<V> {
-    first: Arc<Pair<V>>,
+    first: Slot<V>,
     leaves: Arc<Vec<Leaf<V>>>,
 }
 
@@ -34,11 +34,11 @@ impl<V> Model for Branch<V> {
 
     ghost view = { λ it. joined it.leaves.value.items };
 
-    ghost invariant = { λ it. AreFilled it.leaves.value.items × BeginsAt it.first.value.key (joined it.leaves.value.items) };
+    ghost invariant = { λ it. AreFilled it.leaves.value.items × BeginsAt it.first.key (joined it.leaves.value.items) };
 }
 
 /// The place of the only leaf that may have a key.
-fn place<V: Drop>(leaves: &[Leaf<V>], key: &Key) -> usize
+fn place<V: Drop>(leaves: &[Leaf<V>], key: &Sought<'_>) -> usize
     requires filled { AreFilled leaves.now }
     requires rising { Ascends (joined leaves.now) }
     requires some { 0 < length leaves.now }
@@ -98,7 +98,11 @@ fn replace<V: Drop>(
 }
 
 /// The place of the only leaf that may have a key, where that leaf is halved if it is full.
-fn roomy<V: Drop>(alloc: Global, leaves: &mut Vec<Leaf<V>>, key: &Key) -> Result<usize, Memory>
+fn roomy<V: Drop>(
+    alloc: Global,
+    leaves: &mut Vec<Leaf<V>>,
+    key: &Sought<'_>,
+) -> Result<usize, Memory>
     requires filled { AreFilled leaves.old.items }
     requires rising { Ascends (joined leaves.old.items) }
     requires some { 0 < length leaves.old.items }
@@ -119,19 +123,15 @@ fn roomy<V: Drop>(alloc: Global, leaves: &mut Vec<Leaf<V>>, key: &Key) -> Result
 }
 
 /// Puts a pair in the place of its key.
-fn put_pair<V: Drop>(
-    alloc: Global,
-    leaves: &mut Vec<Leaf<V>>,
-    pair: Arc<Pair<V>>,
-) -> Result<(), Memory>
+fn put_pair<V: Drop>(alloc: Global, leaves: &mut Vec<Leaf<V>>, pair: Slot<V>) -> Result<(), Memory>
     requires filled { AreFilled leaves.old.items }
     requires rising { Ascends (joined leaves.old.items) }
     requires some { 0 < length leaves.old.items }
     ensures filled { AreFilled leaves.new.items }
-    ensures ok { OnOk result (joined leaves.new.items ≡ with_pair (joined leaves.old.items) pair.value) }
+    ensures ok { OnOk result (joined leaves.new.items ≡ with_pair (joined leaves.old.items) pair) }
     ensures err { OnErr result (joined leaves.new.items ≡ joined leaves.old.items) }
 {
-    let at = roomy(alloc, leaves, &pair.key)?;
+    let at = roomy(alloc, leaves, &pair.sought())?;
     leaves[at].put(alloc, pair)?;
     Ok(())
 }
@@ -169,7 +169,11 @@ fn tidy<V: Drop>(alloc: Global, leaves: &mut Vec<Leaf<V>>, at: usize)
 }
 
 /// Takes the pair of a key away, where there is one.
-fn take_pair<V: Drop>(alloc: Global, leaves: &mut Vec<Leaf<V>>, key: &Key) -> Result<(), Memory>
+fn take_pair<V: Drop>(
+    alloc: Global,
+    leaves: &mut Vec<Leaf<V>>,
+    key: &Sought<'_>,
+) -> Result<(), Memory>
     requires filled { AreFilled leaves.old.items }
     requires rising { Ascends (joined leaves.old.items) }
     requires some { 0 < length leaves.old.items }
@@ -187,13 +191,13 @@ fn take_pair<V: Drop>(alloc: Global, leaves: &mut Vec<Leaf<V>>, key: &Key) -> Re
 fn put_shared<V: Drop>(
     alloc: Global,
     leaves: &mut Arc<Vec<Leaf<V>>>,
-    pair: Arc<Pair<V>>,
+    pair: Slot<V>,
 ) -> Result<(), Memory>
     requires filled { AreFilled leaves.old.value.items }
     requires rising { Ascends (joined leaves.old.value.items) }
     requires some { 0 < length leaves.old.value.items }
     ensures filled { AreFilled leaves.new.value.items }
-    ensures ok { OnOk result (joined leaves.new.value.items ≡ with_pair (joined leaves.old.value.items) pair.value) }
+    ensures ok { OnOk result (joined leaves.new.value.items ≡ with_pair (joined leaves.old.value.items) pair) }
     ensures err { OnErr result (joined leaves.new.value.items ≡ joined leaves.old.value.items) }
 {
     match Arc::get_mut(leaves) {
@@ -211,7 +215,7 @@ fn put_shared<V: Drop>(
 fn take_shared<V: Drop>(
     alloc: Global,
     leaves: &mut Arc<Vec<Leaf<V>>>,
-    key: &Key,
+    key: &Sought<'_>,
 ) -> Result<(), Memory>
     requires filled { AreFilled leaves.old.value.items }
     requires rising { Ascends (joined leaves.old.value.items) }
@@ -233,10 +237,10 @@ fn take_shared<V: Drop>(
 
 /// A pair of the second one's key, where there are two.
 #[tactic(auto, using(crate::proofs::Firsts::level_next))]
-fn second<V: Drop>(leaves: &[Leaf<V>]) -> Result<Arc<Pair<V>>, Memory>
+fn second<V: Drop>(leaves: &[Leaf<V>]) -> Result<Slot<V>, Memory>
     requires filled { AreFilled leaves.now }
     requires some { 0 < length leaves.now }
-    ensures { IfOk result (λ made. BeginsAt made.value.key (drop 1 (joined leaves.now))) }
+    ensures { IfOk result (λ made. BeginsAt made.key (drop 1 (joined leaves.now))) }
 {
     let leaf = &leaves[0];
     if !leaf.is_single() {
@@ -261,8 +265,8 @@ impl<V: Drop> Branch<V> {
     }
 
     /// A branch of one pair.
-    pub(crate) fn one(alloc: Global, pair: Arc<Pair<V>>) -> Result<Branch<V>, Memory>
-        ensures { IfOk result (λ made. made ≡ pair.value ∷ []) }
+    pub(crate) fn one(alloc: Global, pair: Slot<V>) -> Result<Branch<V>, Memory>
+        ensures { IfOk result (λ made. made ≡ pair ∷ []) }
     {
         let mut leaves = Vec::new(alloc);
         leaves.push(Leaf::one(alloc, pair)?)?;
@@ -274,7 +278,7 @@ impl<V: Drop> Branch<V> {
         ensures { IfOk result (λ made. made ≡ self.now) }
     {
         Ok(Branch {
-            first: Arc::try_clone(&self.first)?,
+            first: self.first.share()?,
             leaves: Arc::try_clone(&self.leaves)?,
         })
     }
@@ -287,11 +291,11 @@ impl<V: Drop> Branch<V> {
     }
 
     /// How the first key stands to a key.
-    pub(crate) fn start(&self, key: &Key) -> Ordering
+    pub(crate) fn start(&self, key: &Sought<'_>) -> Ordering
         requires { 0 < length self.now }
         ensures { result ≡ start_cmp self.now key.now }
     {
-        cmp_key(&self.first.key, key)
+        self.first.compare(key)
     }
 
     /// The leaves.
@@ -303,10 +307,10 @@ impl<V: Drop> Branch<V> {
     }
 
     /// The pairs from a key on: those of a leaf, and the leaves behind it.
-    pub(crate) fn from(&self, key: &Key) -> (&[Arc<Pair<V>>], &[Leaf<V>])
+    pub(crate) fn from(&self, key: &Sought<'_>) -> (&[Slot<V>], &[Leaf<V>])
         requires rising { Ascends self.now }
         requires some { 0 < length self.now }
-        ensures { values result.0.now ++ joined result.1.now ≡ from_key self.now key.now }
+        ensures { result.0.now ++ joined result.1.now ≡ from_key self.now key.now }
     {
         let leaves = self.leaves.as_slice();
         let at = place(leaves, key);
@@ -315,7 +319,7 @@ impl<V: Drop> Branch<V> {
     }
 
     /// The value of a key.
-    pub(crate) fn get(&self, key: &Key) -> Option<&V>
+    pub(crate) fn get(&self, key: &Sought<'_>) -> Option<&V>
         requires rising { Ascends self.now }
         requires some { 0 < length self.now }
         ensures { option_copied result ≡ value_at self.now key.now }
@@ -358,14 +362,14 @@ impl<V: Drop> Branch<V> {
     }
 
     /// Puts a pair in the place of its key, in place as far down as nobody else holds what is there.
-    pub(crate) fn put(&mut self, alloc: Global, pair: Arc<Pair<V>>) -> Result<(), Memory>
+    pub(crate) fn put(&mut self, alloc: Global, pair: Slot<V>) -> Result<(), Memory>
         requires rising { Ascends self.old }
         requires some { 0 < length self.old }
-        ensures ok { OnOk result (self.new ≡ with_pair self.old pair.value) }
+        ensures ok { OnOk result (self.new ≡ with_pair self.old pair) }
         ensures err { OnErr result (self.new ≡ self.old) }
     {
-        if cmp_key(&pair.key, &self.first.key).is_lt() {
-            let first = Arc::try_clone(&pair)?;
+        if pair.compare(&self.first.sought()).is_lt() {
+            let first = pair.share()?;
             put_shared(alloc, &mut self.leaves, pair)?;
             self.first = first;
             Ok(())
@@ -375,13 +379,13 @@ impl<V: Drop> Branch<V> {
     }
 
     /// Takes the pair of a key away, in place as far down as nobody else holds what is there.
-    pub(crate) fn take(&mut self, alloc: Global, key: &Key) -> Result<(), Memory>
+    pub(crate) fn take(&mut self, alloc: Global, key: &Sought<'_>) -> Result<(), Memory>
         requires rising { Ascends self.old }
         requires some { 0 < length self.old }
         ensures ok { OnOk result (self.new ≡ without self.old key.now) }
         ensures err { OnErr result (self.new ≡ self.old) }
     {
-        if cmp_key(&self.first.key, key).is_eq() {
+        if self.first.compare(key).is_eq() {
             let first = second(self.leaves.as_slice())?;
             take_shared(alloc, &mut self.leaves, key)?;
             self.first = first;

@@ -1,9 +1,9 @@
 ghost use Rattle.std.specs.Prelude.{◌≡◌, ◌==◌, ◌+◌, ◌<◌, ◌≤◌, ◌++◌, ◌∷◌, [], IfOk, OnOk, OnErr, None, length, take, drop, filter};
 ghost use Rattle.std.specs.Option.{IfSome, option_copied};
-ghost use Rattle.ct_ptree.specs.Pairs.{Ascends, values, is_below, is_above, value_at, with_pair, without, from_key, start_cmp, BeginsAt, IsFoundAt, AreHalves};
+ghost use Rattle.ct_ptree.specs.Pairs.{Ascends, is_below, is_above, value_at, with_pair, without, from_key, start_cmp, BeginsAt, IsFoundAt, AreHalves};
 
-use crate::pair::Pair;
-use ct_types::{Key, Memory, cmp_key};
+use crate::slot::{Slot, Sought};
+use ct_types::Memory;
 use std::alloc::Global;
 use std::cmp::Ordering;
 use std::marker::Model;
@@ -18,39 +18,39 @@ const FEW: usize = 64;
 /// Some pairs in rising order of keys, and beside them a pair of the first one's key: a search among leaves reads no list.
 #[derive(Drop)]
 pub(crate) struct Leaf<V> {
-    first: Arc<Pair<V>>,
-    pairs: Arc<Vec<Arc<Pair<V>>>>,
+    first: Slot<V>,
+    pairs: Arc<Vec<Slot<V>>>,
 }
 
 impl<V> Model for Leaf<V> {
     ghost use Rattle.std.specs.Prelude.{List};
     ghost use Rattle.ct_ptree.specs.declared.pair.Pair.{Pair};
-    ghost use Rattle.ct_ptree.specs.Pairs.{values, BeginsAt};
+    ghost use Rattle.ct_ptree.specs.Pairs.{BeginsAt};
 
     ghost Value = { List (Pair V) };
 
-    ghost view = { λ it. values it.pairs.value.items };
+    ghost view = { λ it. it.pairs.value.items };
 
-    ghost invariant = { λ it. BeginsAt it.first.value.key (values it.pairs.value.items) };
+    ghost invariant = { λ it. BeginsAt it.first.key it.pairs.value.items };
 }
 
 /// How many pairs stand below a key, and how many stand not above it.
-fn gap<V>(pairs: &[Arc<Pair<V>>], key: &Key) -> (usize, usize)
-    requires { Ascends (values pairs.now) }
+fn gap<V>(pairs: &[Slot<V>], key: &Sought<'_>) -> (usize, usize)
+    requires { Ascends pairs.now }
     ensures within { result.1 ≤ length pairs.now }
     ensures order { result.0 ≤ result.1 }
     ensures narrow { result.1 ≤ result.0 + 1 }
-    ensures low { values (take result.0 pairs.now) ≡ filter (is_below key.now) (values pairs.now) }
-    ensures high { values (drop result.1 pairs.now) ≡ filter (is_above key.now) (values pairs.now) }
-    ensures rest { values (drop result.0 pairs.now) ≡ from_key (values pairs.now) key.now }
+    ensures low { take result.0 pairs.now ≡ filter (is_below key.now) pairs.now }
+    ensures high { drop result.1 pairs.now ≡ filter (is_above key.now) pairs.now }
+    ensures rest { drop result.0 pairs.now ≡ from_key pairs.now key.now }
     ensures found { result.0 < result.1 → IsFoundAt pairs.now key.now result.0 }
-    ensures none { result.0 ≡ result.1 → value_at (values pairs.now) key.now ≡ None }
+    ensures none { result.0 ≡ result.1 → value_at pairs.now key.now ≡ None }
 {
     let mut low = 0;
     let mut high = pairs.len();
     while low < high {
         let middle = low + (high - low) / 2;
-        match cmp_key(&pairs[middle].key, key) {
+        match pairs[middle].compare(key) {
             Ordering::Less => low = middle + 1,
             Ordering::Greater => high = middle,
             Ordering::Equal => return (middle, middle + 1),
@@ -60,18 +60,18 @@ fn gap<V>(pairs: &[Arc<Pair<V>>], key: &Key) -> (usize, usize)
 }
 
 /// Adds shares of pairs at the end of a list.
-fn push_shares<V: Drop>(made: &mut Vec<Arc<Pair<V>>>, pairs: &[Arc<Pair<V>>]) -> Result<(), Memory>
-    ensures { OnOk result (values made.new.items ≡ values made.old.items ++ values pairs.now) }
+fn push_shares<V: Drop>(made: &mut Vec<Slot<V>>, pairs: &[Slot<V>]) -> Result<(), Memory>
+    ensures { OnOk result (made.new.items ≡ made.old.items ++ pairs.now) }
 {
     for pair in pairs {
-        made.push(Arc::try_clone(pair)?)?;
+        made.push(pair.share()?)?;
     }
     Ok(())
 }
 
 /// A list of shares of pairs, with room for the most that there may be.
-fn shares<V: Drop>(alloc: Global, pairs: &[Arc<Pair<V>>]) -> Result<Vec<Arc<Pair<V>>>, Memory>
-    ensures { IfOk result (λ made. values made.items ≡ values pairs.now) }
+fn shares<V: Drop>(alloc: Global, pairs: &[Slot<V>]) -> Result<Vec<Slot<V>>, Memory>
+    ensures { IfOk result (λ made. made.items ≡ pairs.now) }
 {
     let mut made = Vec::with_capacity(alloc, MOST + 1)?;
     push_shares(&mut made, pairs)?;
@@ -79,12 +79,12 @@ fn shares<V: Drop>(alloc: Global, pairs: &[Arc<Pair<V>>]) -> Result<Vec<Arc<Pair
 }
 
 /// Puts a pair in the place of its key.
-fn put_pair<V: Drop>(pairs: &mut Vec<Arc<Pair<V>>>, pair: Arc<Pair<V>>) -> Result<(), Memory>
-    requires { Ascends (values pairs.old.items) }
-    ensures ok { OnOk result (values pairs.new.items ≡ with_pair (values pairs.old.items) pair.value) }
-    ensures err { OnErr result (values pairs.new.items ≡ values pairs.old.items) }
+fn put_pair<V: Drop>(pairs: &mut Vec<Slot<V>>, pair: Slot<V>) -> Result<(), Memory>
+    requires { Ascends pairs.old.items }
+    ensures ok { OnOk result (pairs.new.items ≡ with_pair pairs.old.items pair) }
+    ensures err { OnErr result (pairs.new.items ≡ pairs.old.items) }
 {
-    let (low, high) = gap(pairs.as_slice(), &pair.key);
+    let (low, high) = gap(pairs.as_slice(), &pair.sought());
     if low < high {
         pairs[low] = pair;
     } else {
@@ -94,9 +94,9 @@ fn put_pair<V: Drop>(pairs: &mut Vec<Arc<Pair<V>>>, pair: Arc<Pair<V>>) -> Resul
 }
 
 /// Takes the pair of a key away, where there is one.
-fn take_pair<V: Drop>(pairs: &mut Vec<Arc<Pair<V>>>, key: &Key)
-    requires { Ascends (values pairs.old.items) }
-    ensures { values pairs.new.items ≡ without (values pairs.old.items) key.now }
+fn take_pair<V: Drop>(pairs: &mut Vec<Slot<V>>, key: &Sought<'_>)
+    requires { Ascends pairs.old.items }
+    ensures { pairs.new.items ≡ without pairs.old.items key.now }
 {
     let (low, high) = gap(pairs.as_slice(), key);
     if low < high {
@@ -107,12 +107,12 @@ fn take_pair<V: Drop>(pairs: &mut Vec<Arc<Pair<V>>>, key: &Key)
 /// Puts a pair in the place of its key, in place where nobody else holds the list.
 fn put_shared<V: Drop>(
     alloc: Global,
-    pairs: &mut Arc<Vec<Arc<Pair<V>>>>,
-    pair: Arc<Pair<V>>,
+    pairs: &mut Arc<Vec<Slot<V>>>,
+    pair: Slot<V>,
 ) -> Result<(), Memory>
-    requires { Ascends (values pairs.old.value.items) }
-    ensures ok { OnOk result (values pairs.new.value.items ≡ with_pair (values pairs.old.value.items) pair.value) }
-    ensures err { OnErr result (values pairs.new.value.items ≡ values pairs.old.value.items) }
+    requires { Ascends pairs.old.value.items }
+    ensures ok { OnOk result (pairs.new.value.items ≡ with_pair pairs.old.value.items pair) }
+    ensures err { OnErr result (pairs.new.value.items ≡ pairs.old.value.items) }
 {
     match Arc::get_mut(pairs) {
         Some(own) => put_pair(own, pair),
@@ -128,12 +128,12 @@ fn put_shared<V: Drop>(
 /// Takes the pair of a key away, in place where nobody else holds the list.
 fn take_shared<V: Drop>(
     alloc: Global,
-    pairs: &mut Arc<Vec<Arc<Pair<V>>>>,
-    key: &Key,
+    pairs: &mut Arc<Vec<Slot<V>>>,
+    key: &Sought<'_>,
 ) -> Result<(), Memory>
-    requires { Ascends (values pairs.old.value.items) }
-    ensures ok { OnOk result (values pairs.new.value.items ≡ without (values pairs.old.value.items) key.now) }
-    ensures err { OnErr result (values pairs.new.value.items ≡ values pairs.old.value.items) }
+    requires { Ascends pairs.old.value.items }
+    ensures ok { OnOk result (pairs.new.value.items ≡ without pairs.old.value.items key.now) }
+    ensures err { OnErr result (pairs.new.value.items ≡ pairs.old.value.items) }
 {
     match Arc::get_mut(pairs) {
         Some(own) => {
@@ -150,19 +150,19 @@ fn take_shared<V: Drop>(
 }
 
 impl<V: Drop> Leaf<V> {
-    fn of(alloc: Global, pairs: Vec<Arc<Pair<V>>>) -> Result<Leaf<V>, Memory>
-        requires { 0 < length (values pairs.items) }
-        ensures { IfOk result (λ made. made ≡ values pairs.items) }
+    fn of(alloc: Global, pairs: Vec<Slot<V>>) -> Result<Leaf<V>, Memory>
+        requires { 0 < length pairs.items }
+        ensures { IfOk result (λ made. made ≡ pairs.items) }
     {
         Ok(Leaf {
-            first: Arc::try_clone(&pairs[0])?,
+            first: pairs[0].share()?,
             pairs: Arc::new(alloc, pairs)?,
         })
     }
 
     /// A leaf of one pair.
-    pub(crate) fn one(alloc: Global, pair: Arc<Pair<V>>) -> Result<Leaf<V>, Memory>
-        ensures { IfOk result (λ made. made ≡ pair.value ∷ []) }
+    pub(crate) fn one(alloc: Global, pair: Slot<V>) -> Result<Leaf<V>, Memory>
+        ensures { IfOk result (λ made. made ≡ pair ∷ []) }
     {
         let mut pairs = Vec::new(alloc);
         pairs.push(pair)?;
@@ -174,7 +174,7 @@ impl<V: Drop> Leaf<V> {
         ensures { IfOk result (λ made. made ≡ self.now) }
     {
         Ok(Leaf {
-            first: Arc::try_clone(&self.first)?,
+            first: self.first.share()?,
             pairs: Arc::try_clone(&self.pairs)?,
         })
     }
@@ -187,27 +187,27 @@ impl<V: Drop> Leaf<V> {
     }
 
     /// How the first key stands to a key.
-    pub(crate) fn start(&self, key: &Key) -> Ordering
+    pub(crate) fn start(&self, key: &Sought<'_>) -> Ordering
         requires { 0 < length self.now }
         ensures { result ≡ start_cmp self.now key.now }
     {
-        cmp_key(&self.first.key, key)
+        self.first.compare(key)
     }
 
     /// A pair of the first one's key.
-    pub(crate) fn first(&self) -> Result<Arc<Pair<V>>, Memory>
-        ensures { IfOk result (λ made. BeginsAt made.value.key self.now) }
+    pub(crate) fn first(&self) -> Result<Slot<V>, Memory>
+        ensures { IfOk result (λ made. BeginsAt made.key self.now) }
     {
-        Ok(Arc::try_clone(&self.first)?)
+        self.first.share()
     }
 
     /// A pair of the second one's key, where there are two.
-    pub(crate) fn second(&self) -> Result<Arc<Pair<V>>, Memory>
-        ensures { IfOk result (λ made. BeginsAt made.value.key (drop 1 self.now)) }
+    pub(crate) fn second(&self) -> Result<Slot<V>, Memory>
+        ensures { IfOk result (λ made. BeginsAt made.key (drop 1 self.now)) }
     {
         match self.pairs.get(1) {
             None => self.first(),
-            Some(pair) => Ok(Arc::try_clone(pair)?),
+            Some(pair) => pair.share(),
         }
     }
 
@@ -219,16 +219,16 @@ impl<V: Drop> Leaf<V> {
     }
 
     /// The pairs.
-    pub(crate) fn pairs(&self) -> &[Arc<Pair<V>>]
-        ensures { values result.now ≡ self.now }
+    pub(crate) fn pairs(&self) -> &[Slot<V>]
+        ensures { result.now ≡ self.now }
     {
         self.pairs.as_slice()
     }
 
     /// The pairs from a key on.
-    pub(crate) fn from(&self, key: &Key) -> &[Arc<Pair<V>>]
+    pub(crate) fn from(&self, key: &Sought<'_>) -> &[Slot<V>]
         requires { Ascends self.now }
-        ensures { values result.now ≡ from_key self.now key.now }
+        ensures { result.now ≡ from_key self.now key.now }
     {
         let pairs = self.pairs.as_slice();
         let (low, _) = gap(pairs, key);
@@ -236,14 +236,14 @@ impl<V: Drop> Leaf<V> {
     }
 
     /// The value of a key.
-    pub(crate) fn get(&self, key: &Key) -> Option<&V>
+    pub(crate) fn get(&self, key: &Sought<'_>) -> Option<&V>
         requires { Ascends self.now }
         ensures { option_copied result ≡ value_at self.now key.now }
     {
         let pairs = self.pairs.as_slice();
         let (low, high) = gap(pairs, key);
         if low < high {
-            Some(&pairs[low].value)
+            Some(&pairs[low].pair().value)
         } else {
             None
         }
@@ -277,14 +277,14 @@ impl<V: Drop> Leaf<V> {
     }
 
     /// Puts a pair in the place of its key, in place where nobody else holds the leaf.
-    pub(crate) fn put(&mut self, alloc: Global, pair: Arc<Pair<V>>) -> Result<(), Memory>
+    pub(crate) fn put(&mut self, alloc: Global, pair: Slot<V>) -> Result<(), Memory>
         requires rising { Ascends self.old }
         requires some { 0 < length self.old }
-        ensures ok { OnOk result (self.new ≡ with_pair self.old pair.value) }
+        ensures ok { OnOk result (self.new ≡ with_pair self.old pair) }
         ensures err { OnErr result (self.new ≡ self.old) }
     {
-        if cmp_key(&pair.key, &self.first.key).is_lt() {
-            let first = Arc::try_clone(&pair)?;
+        if pair.compare(&self.first.sought()).is_lt() {
+            let first = pair.share()?;
             put_shared(alloc, &mut self.pairs, pair)?;
             self.first = first;
             Ok(())
@@ -294,12 +294,12 @@ impl<V: Drop> Leaf<V> {
     }
 
     /// Takes the pair of a key away, in place where nobody else holds the leaf.
-    pub(crate) fn take(&mut self, alloc: Global, key: &Key) -> Result<(), Memory>
+    pub(crate) fn take(&mut self, alloc: Global, key: &Sought<'_>) -> Result<(), Memory>
         requires { Ascends self.old }
         ensures ok { OnOk result (self.new ≡ without self.old key.now) }
         ensures err { OnErr result (self.new ≡ self.old) }
     {
-        if cmp_key(&self.first.key, key).is_eq() {
+        if self.first.compare(key).is_eq() {
             let first = self.second()?;
             take_shared(alloc, &mut self.pairs, key)?;
             self.first = first;

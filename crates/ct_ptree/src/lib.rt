@@ -7,6 +7,7 @@ mod leaf;
 mod pair;
 mod range;
 mod root;
+mod slot;
 mod tree;
 
 pub use pair::Pair;

@@ -1,12 +1,12 @@
 ghost use Rattle.std.specs.Prelude.{◌≡◌, ◌==◌, ◌+◌, ◌<◌, ◌++◌, ◌∷◌, [], IfOk, OnOk, OnErr, length, take, drop, slice_index_or};
 ghost use Rattle.std.specs.List.{remove};
 ghost use Rattle.std.specs.Option.{IfSome, option_copied};
-ghost use Rattle.ct_ptree.specs.Pairs.{Ascends, AreFilled, AllBelow, AllAbove, joined, values, value_at, with_pair, without, from_key, start_cmp, AreHalves};
+ghost use Rattle.ct_ptree.specs.Pairs.{Ascends, AreFilled, AllBelow, AllAbove, joined, value_at, with_pair, without, from_key, start_cmp, AreHalves};
 
 use crate::branch::Branch;
-use crate::pair::Pair;
 use crate::range::Range;
-use ct_types::{Key, Memory};
+use crate::slot::{Slot, Sought};
+use ct_types::Memory;
 use std::alloc::Global;
 use std::cmp::Ordering;
 use std::marker::Model;
@@ -31,7 +31,7 @@ impl<V> Model for Root<V> {
 }
 
 /// The place of the only branch that may have a key.
-fn place<V: Drop>(branches: &[Branch<V>], key: &Key) -> usize
+fn place<V: Drop>(branches: &[Branch<V>], key: &Sought<'_>) -> usize
     requires filled { AreFilled branches.now }
     requires rising { Ascends (joined branches.now) }
     requires some { 0 < length branches.now }
@@ -91,7 +91,11 @@ fn replace<V: Drop>(
 }
 
 /// The place of the only branch that may have a key, where that branch is halved if it is full.
-fn roomy<V: Drop>(alloc: Global, branches: &mut Vec<Branch<V>>, key: &Key) -> Result<usize, Memory>
+fn roomy<V: Drop>(
+    alloc: Global,
+    branches: &mut Vec<Branch<V>>,
+    key: &Sought<'_>,
+) -> Result<usize, Memory>
     requires filled { AreFilled branches.old.items }
     requires rising { Ascends (joined branches.old.items) }
     requires some { 0 < length branches.old.items }
@@ -115,16 +119,16 @@ fn roomy<V: Drop>(alloc: Global, branches: &mut Vec<Branch<V>>, key: &Key) -> Re
 fn put_pair<V: Drop>(
     alloc: Global,
     branches: &mut Vec<Branch<V>>,
-    pair: Arc<Pair<V>>,
+    pair: Slot<V>,
 ) -> Result<(), Memory>
     requires filled { AreFilled branches.old.items }
     requires rising { Ascends (joined branches.old.items) }
     requires some { 0 < length branches.old.items }
     ensures filled { AreFilled branches.new.items }
-    ensures ok { OnOk result (joined branches.new.items ≡ with_pair (joined branches.old.items) pair.value) }
+    ensures ok { OnOk result (joined branches.new.items ≡ with_pair (joined branches.old.items) pair) }
     ensures err { OnErr result (joined branches.new.items ≡ joined branches.old.items) }
 {
-    let at = roomy(alloc, branches, &pair.key)?;
+    let at = roomy(alloc, branches, &pair.sought())?;
     branches[at].put(alloc, pair)?;
     Ok(())
 }
@@ -162,7 +166,11 @@ fn tidy<V: Drop>(alloc: Global, branches: &mut Vec<Branch<V>>, at: usize)
 }
 
 /// Takes the pair of a key away, where there is one.
-fn take_pair<V: Drop>(alloc: Global, branches: &mut Vec<Branch<V>>, key: &Key) -> Result<(), Memory>
+fn take_pair<V: Drop>(
+    alloc: Global,
+    branches: &mut Vec<Branch<V>>,
+    key: &Sought<'_>,
+) -> Result<(), Memory>
     requires filled { AreFilled branches.old.items }
     requires rising { Ascends (joined branches.old.items) }
     requires some { 0 < length branches.old.items }
@@ -187,8 +195,8 @@ impl<V: Drop> Root<V> {
     }
 
     /// A root of one pair.
-    pub(crate) fn one(alloc: Global, pair: Arc<Pair<V>>) -> Result<Root<V>, Memory>
-        ensures { IfOk result (λ made. made ≡ pair.value ∷ []) }
+    pub(crate) fn one(alloc: Global, pair: Slot<V>) -> Result<Root<V>, Memory>
+        ensures { IfOk result (λ made. made ≡ pair ∷ []) }
     {
         let mut branches = Vec::new(alloc);
         branches.push(Branch::one(alloc, pair)?)?;
@@ -219,7 +227,7 @@ impl<V: Drop> Root<V> {
     }
 
     /// The pairs from a key on.
-    pub(crate) fn range(&self, from: &Key) -> Range<'_, V>
+    pub(crate) fn range(&self, from: &Sought<'_>) -> Range<'_, V>
         requires rising { Ascends self.now }
         requires some { 0 < length self.now }
         ensures { result ≡ from_key self.now from.now }
@@ -232,7 +240,7 @@ impl<V: Drop> Root<V> {
     }
 
     /// The value of a key.
-    pub(crate) fn get(&self, key: &Key) -> Option<&V>
+    pub(crate) fn get(&self, key: &Sought<'_>) -> Option<&V>
         requires rising { Ascends self.now }
         requires some { 0 < length self.now }
         ensures { option_copied result ≡ value_at self.now key.now }
@@ -244,10 +252,10 @@ impl<V: Drop> Root<V> {
     }
 
     /// Puts a pair in the place of its key, in place as far down as nobody else holds what is there.
-    pub(crate) fn put(&mut self, alloc: Global, pair: Arc<Pair<V>>) -> Result<(), Memory>
+    pub(crate) fn put(&mut self, alloc: Global, pair: Slot<V>) -> Result<(), Memory>
         requires rising { Ascends self.old }
         requires some { 0 < length self.old }
-        ensures ok { OnOk result (self.new ≡ with_pair self.old pair.value) }
+        ensures ok { OnOk result (self.new ≡ with_pair self.old pair) }
         ensures err { OnErr result (self.new ≡ self.old) }
     {
         match Arc::get_mut(&mut self.branches) {
@@ -262,7 +270,7 @@ impl<V: Drop> Root<V> {
     }
 
     /// Takes the pair of a key away, in place as far down as nobody else holds what is there.
-    pub(crate) fn take(&mut self, alloc: Global, key: &Key) -> Result<(), Memory>
+    pub(crate) fn take(&mut self, alloc: Global, key: &Sought<'_>) -> Result<(), Memory>
         requires rising { Ascends self.old }
         requires some { 0 < length self.old }
         ensures ok { OnOk result (self.new ≡ without self.old key.now) }

@@ -5,6 +5,7 @@ ghost use Rattle.ct_ptree.specs.Pairs.{Ascends, IsFilled, content, value_at, set
 use crate::pair::Pair;
 use crate::range::Range;
 use crate::root::Root;
+use crate::slot::{Slot, Sought};
 use ct_types::{Key, Memory};
 use std::alloc::Global;
 use std::marker::Model;
@@ -17,6 +18,8 @@ use std::sync::Arc;
 /// each pair, stands behind a counted pointer, and several trees may hold it. Beside each leaf's and each branch's list is a
 /// pointer to a pair of its first key, so that a search in the level above compares with that key and reads no list below.
 /// It may be an earlier pair of that key, whose value is then kept until another pair stands there.
+/// Beside each pointer to a pair is the number that its key begins with, and a search reads a pair only where numbers do not
+/// decide.
 #[derive(Drop)]
 pub struct Tree<V> {
     alloc: Global,
@@ -36,14 +39,10 @@ impl<V> Model for Tree<V> {
 }
 
 /// Puts a pair in the place of its key, into a root or none.
-fn root_put<V: Drop>(
-    alloc: Global,
-    root: &mut Option<Root<V>>,
-    pair: Arc<Pair<V>>,
-) -> Result<(), Memory>
+fn root_put<V: Drop>(alloc: Global, root: &mut Option<Root<V>>, pair: Slot<V>) -> Result<(), Memory>
     requires rising { Ascends (content root.old) }
     requires filled { IsFilled root.old }
-    ensures ok { OnOk result (content root.new ≡ with_pair (content root.old) pair.value) }
+    ensures ok { OnOk result (content root.new ≡ with_pair (content root.old) pair) }
     ensures err { OnErr result (content root.new ≡ content root.old) }
     ensures filled { IsFilled root.new }
 {
@@ -57,7 +56,11 @@ fn root_put<V: Drop>(
 }
 
 /// Takes the pair of a key away, and a root that has none left.
-fn root_take<V: Drop>(alloc: Global, root: &mut Option<Root<V>>, key: &Key) -> Result<(), Memory>
+fn root_take<V: Drop>(
+    alloc: Global,
+    root: &mut Option<Root<V>>,
+    key: &Sought<'_>,
+) -> Result<(), Memory>
     requires rising { Ascends (content root.old) }
     requires filled { IsFilled root.old }
     ensures ok { OnOk result (content root.new ≡ without (content root.old) key.now) }
@@ -90,7 +93,7 @@ impl<V: Drop> Tree<V> {
     {
         match &self.root {
             None => None,
-            Some(root) => root.get(key),
+            Some(root) => root.get(&Sought::of(key)),
         }
     }
 
@@ -111,7 +114,7 @@ impl<V: Drop> Tree<V> {
     {
         match &self.root {
             None => Range::of(&[], &[], &[]),
-            Some(root) => root.range(from),
+            Some(root) => root.range(&Sought::of(from)),
         }
     }
 
@@ -156,7 +159,7 @@ impl<V: Drop> Tree<V> {
         ensures err { OnErr result (self.new ≡ self.old) }
     {
         let pair = Arc::new(self.alloc, Pair { key, value })?;
-        root_put(self.alloc, &mut self.root, pair)
+        root_put(self.alloc, &mut self.root, Slot::of(pair))
     }
 
     /// Takes a key away with its value, where it has one. What no other tree holds is changed in place, and the rest is
@@ -165,6 +168,6 @@ impl<V: Drop> Tree<V> {
         ensures ok { OnOk result (self.new ≡ without self.old key.now) }
         ensures err { OnErr result (self.new ≡ self.old) }
     {
-        root_take(self.alloc, &mut self.root, key)
+        root_take(self.alloc, &mut self.root, &Sought::of(key))
     }
 }

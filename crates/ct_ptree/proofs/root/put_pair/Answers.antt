@@ -8,5 +8,5 @@ put-requires-clause-rising g c = rising_at c.roomy.new.branches.items c.in_ok-at
 
 pub returns-clause-ok : goal.returns-clause-ok
 returns-clause-ok g c =
-    level_put c.args.pair.value c.roomy.new.branches.items c.in_ok-at.at c.index_mut.result.now c.put.new.self c.in_ok-at.ensures.within c.index_mut.ensures.value (rw c.deref.ensures at c.in_ok-at.ensures.low) (rw c.deref.ensures at c.in_ok-at.ensures.high) c.in_ok-put.ensures.ok
-    ∙ ap (λ ys. with_pair ys c.args.pair.value) c.roomy.ensures.same
+    level_put c.args.pair c.roomy.new.branches.items c.in_ok-at.at c.index_mut.result.now c.put.new.self c.in_ok-at.ensures.within c.index_mut.ensures.value (rw c.sought.ensures at c.in_ok-at.ensures.low) (rw c.sought.ensures at c.in_ok-at.ensures.high) c.in_ok-put.ensures.ok
+    ∙ ap (λ ys. with_pair ys c.args.pair) c.roomy.ensures.same

@@ -1,22 +1,22 @@
 use Rattle.std.proofs.Common.{◌≡◌, true, false}
 use Rattle.std.specs.Ordering.{is_lt}
 use Rattle.ct_types.specs.Order.{key_cmp}
-use Rattle.ct_ptree.specs.Pairs.{values, with_pair}
-use Rattle.ct_ptree.proofs.Firsts.{told_lt, sooner_begins, put_begins, changed_begins}
+use Rattle.ct_ptree.specs.Pairs.{with_pair}
+use Rattle.ct_ptree.proofs.Firsts.{sooner_begins, put_begins, changed_begins}
 use Rattle.ct_ptree.proofs.leaf.Leaf.put.Goals as goal
 
 pub invariant_of-self-then-is_lt : goal.invariant_of-self-then-is_lt
 invariant_of-self-then-is_lt g c =
-    let old = values c.self.inside.pairs.value.items in
-    let first = c.self.inside.first.value in
-    let pair = c.args.pair.value in
-    let sooner : is_lt (key_cmp pair.key first.key) ≡ true = told_lt c.deref.result.now c.deref-2.result.now pair first c.cmp_key.result c.is_lt.result true c.deref.ensures c.deref-2.ensures c.cmp_key.ensures c.is_lt.ensures c.if-is_lt.true in
+    let old = c.self.inside.pairs.value.items in
+    let first = c.self.inside.first in
+    let pair = c.args.pair in
+    let sooner : is_lt (key_cmp pair.key first.key) ≡ true = rw (← c.sought.ensures, ← c.compare.ensures, ← c.is_lt.ensures) c.if-is_lt.true in
     rw (c.in_ok-put_shared.ensures.ok, c.in_ok-first.ensures) (sooner_begins first.key old pair c.self.invariant (rw c.self.view_is c.requires.rising) sooner)
 
 pub invariant_of-self-else-is_lt : goal.invariant_of-self-else-is_lt
 invariant_of-self-else-is_lt g c =
-    let old = values c.self.inside.pairs.value.items in
-    let first = c.self.inside.first.value in
-    let pair = c.args.pair.value in
-    let late : is_lt (key_cmp pair.key first.key) ≡ false = told_lt c.deref.result.now c.deref-2.result.now pair first c.cmp_key.result c.is_lt.result false c.deref.ensures c.deref-2.ensures c.cmp_key.ensures c.is_lt.ensures c.if-is_lt.false in
-    changed_begins c.put_shared-else-is_lt.result first.key old (with_pair old pair) (values c.put_shared-else-is_lt.new.pairs.value.items) c.self.invariant (put_begins first.key old pair c.self.invariant (rw c.self.view_is c.requires.rising) (rw c.self.view_is c.requires.some) late) c.put_shared-else-is_lt.ensures.ok c.put_shared-else-is_lt.ensures.err
+    let old = c.self.inside.pairs.value.items in
+    let first = c.self.inside.first in
+    let pair = c.args.pair in
+    let late : is_lt (key_cmp pair.key first.key) ≡ false = rw (← c.sought.ensures, ← c.compare.ensures, ← c.is_lt.ensures) c.if-is_lt.false in
+    changed_begins c.put_shared-else-is_lt.result first.key old (with_pair old pair) c.put_shared-else-is_lt.new.pairs.value.items c.self.invariant (put_begins first.key old pair c.self.invariant (rw c.self.view_is c.requires.rising) (rw c.self.view_is c.requires.some) late) c.put_shared-else-is_lt.ensures.ok c.put_shared-else-is_lt.ensures.err
