@@ -1,12 +1,13 @@
-ghost use Rattle.std.specs.Prelude.{◌≡◌, IfSome, Some, Ok, not};
+ghost use Rattle.std.specs.Prelude.{◌≡◌, ◌++◌, IfSome, Some, Ok, not};
 ghost use Rattle.ct_expr.specs.Meaning as spec;
 ghost use Rattle.ct_expr.specs.Meaning.{scene};
 ghost use Rattle.ct_expr.specs.Numbers.{compare as compare_values, is_null as is_null_value};
 ghost use Rattle.ct_types.specs.Answers.{Gives};
 
+use crate::beside::Beside;
 use crate::functions::{
     column_property, counted_or_null, if_null, is_column_in_mask, min_valid_version, object_id,
-    value_at, value_in, variable_at, variable_in, version_column, with,
+    value_or_null, variable_at, variable_in, version_column, with,
 };
 use crate::logic::{and3, not3, or3};
 use crate::numbers::{compare, is_null, minus, negative, plus, times};
@@ -34,7 +35,7 @@ pub fn eval<L: Versions>(
 {
     Scene {
         alloc,
-        row,
+        row: &Beside::row(row),
         env,
         versions,
     }
@@ -54,7 +55,7 @@ pub fn truth<L: Versions>(
 {
     Scene {
         alloc,
-        row,
+        row: &Beside::row(row),
         env,
         versions,
     }
@@ -78,6 +79,32 @@ pub fn holds<L: Versions>(
     }
 }
 
+/// Whether a condition, as ON's, is true on the row of a pair: the left row's values, then the right row's. It copies neither.
+/// The rest is as in `holds`.
+pub fn pair_holds<L: Versions>(
+    alloc: Global,
+    condition: &Option<BoundExpr>,
+    left: &Row,
+    right: &Row,
+    env: &Env<'_>,
+    versions: &L,
+) -> Result<bool, Refusal>
+    ensures { Gives (spec.holds (record { env = env.now; versions = L.row_of versions.now }) condition.now (record { 0 = left.now.0 ++ right.now.0 })) result }
+{
+    match condition {
+        None => Ok(true),
+        Some(condition) => {
+            let scene = Scene {
+                alloc,
+                row: &Beside::pair(left, right),
+                env,
+                versions,
+            };
+            Ok(scene.truth(condition)? == Some(true))
+        }
+    }
+}
+
 /// The key that the values of CHANGETABLE(VERSION ..) make on a row, and the version row at that key. The errors are those of `eval`.
 pub fn row_version<L: Versions>(
     alloc: Global,
@@ -90,7 +117,7 @@ pub fn row_version<L: Versions>(
 {
     Scene {
         alloc,
-        row,
+        row: &Beside::row(row),
         env,
         versions,
     }
@@ -101,7 +128,7 @@ pub fn row_version<L: Versions>(
 #[derive(Drop)]
 struct Scene<'a, L> {
     alloc: Global,
-    row: &'a Row,
+    row: &'a Beside<'a>,
     env: &'a Env<'a>,
     versions: &'a L,
 }
@@ -117,7 +144,7 @@ impl<L: Versions> Scene<'_, L> {
             BoundExpr::Number(number) => Ok(Value::Int(*number)),
             BoundExpr::Text(text) => Ok(Value::Text(text.copy(self.alloc)?)),
             BoundExpr::Bytes(bytes) => Ok(Value::Bytes(bytes.copy(self.alloc)?)),
-            BoundExpr::Column(at) => Ok(value_at(self.alloc, self.row.0.as_slice(), *at)?),
+            BoundExpr::Column(at) => { Ok(value_or_null(self.alloc, self.row.value_in(*at))?) },
             BoundExpr::Variable(at) => {
                 Ok(variable_at(self.alloc, env.variables.0.as_slice(), *at)?)
             }
@@ -238,7 +265,7 @@ impl<L: Versions> Scene<'_, L> {
     {
         let env = self.env;
         match expr {
-            BoundExpr::Column(at) => value_in(self.row.0.as_slice(), *at),
+            BoundExpr::Column(at) => self.row.value_in(*at),
             BoundExpr::Variable(at) => variable_in(env.variables.0.as_slice(), *at),
             _ => None,
         }

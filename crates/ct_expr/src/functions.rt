@@ -13,18 +13,11 @@ use ct_types::{
 };
 use std::alloc::Global;
 
-/// Lends the value at a place, if there is one.
-pub(crate) fn value_in(values: &[Value], at: u32) -> Option<&Value>
-    ensures { option_copied result ≡ slice_get values.now at }
+/// A copy of a value, or NULL where there is none.
+pub(crate) fn value_or_null(alloc: Global, value: Option<&Value>) -> Result<Value, Memory>
+    ensures { IfOk result (λ made. made ≡ spec.or_null (option_copied value.entry)) }
 {
-    values.get(at as usize)
-}
-
-/// The value in a place, or NULL where there is none.
-pub(crate) fn value_at(alloc: Global, values: &[Value], at: u32) -> Result<Value, Memory>
-    ensures { IfOk result (λ value. value ≡ spec.or_null (slice_get values.now at)) }
-{
-    match value_in(values, at) {
+    match value {
         Some(value) => value.copy(alloc),
         None => Ok(Value::Null),
     }
@@ -222,6 +215,6 @@ pub(crate) fn version_column(
     match column {
         VersionColumn::Version => Ok(counted_or_null(row.version)),
         VersionColumn::Context => Ok(bytes_or_null(row.context)),
-        VersionColumn::Key(at) => value_at(alloc, key.0.as_slice(), at),
+        VersionColumn::Key(at) => value_or_null(alloc, key.0.as_slice().get(at as usize)),
     }
 }

@@ -1,6 +1,7 @@
 //! What bound expressions mean on a row, and the evaluator that gives it.
 #![tactic(auto)]
 
+mod beside;
 mod env;
 mod evaluator;
 mod functions;
@@ -10,7 +11,7 @@ mod numbers;
 mod tables;
 
 pub use env::{Env, Versions};
-pub use evaluator::{eval, holds, row_version, truth};
+pub use evaluator::{eval, holds, pair_holds, row_version, truth};
 pub use functions::{bytes_or_null, counted, counted_or_null, one_or_zero, variable_at};
 pub use laws::{de_morgan, double_negation, mirror, text_names};
 pub use numbers::negative;

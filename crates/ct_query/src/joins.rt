@@ -3,6 +3,7 @@ ghost use Rattle.ct_types.specs.declared.value.Value.TheVariants.{Null as null};
 ghost use Rattle.ct_types.specs.Answers.{Gives};
 ghost use Rattle.ct_query.specs.declared.side.Side.TheVariants.{Left as left_side};
 ghost use Rattle.ct_query.specs.Joins.{pair as a_pair, left_only as a_left, right_only as a_right, row_of, side_by_side};
+ghost use Rattle.ct_expr.specs.Meaning.{holds as holds_on};
 ghost use Rattle.ct_scan.specs.Lists.{all_of};
 ghost use Rattle.ct_query.specs.Steps as spec;
 ghost use Rattle.ct_source.specs.Rows.{lent};
@@ -10,7 +11,7 @@ ghost use Rattle.ct_source.specs.Sources.{source_rows};
 
 use crate::lists::append;
 use crate::side::Side;
-use ct_expr::{Env, Versions, holds};
+use ct_expr::{Env, Versions, pair_holds};
 use ct_scan::{index_of_lefts, index_of_rights, lefts_of, rights_of, stand_alike};
 use ct_source::{Index, Source};
 use ct_types::{Copies, List, Memory, Plan, Refusal, Row, Value, push};
@@ -82,7 +83,25 @@ fn alone_at(alloc: Global, plan: &Plan, side: Side, row: &Row) -> Result<Row, Me
     }
 }
 
-/// The pairs of a row of a side with these rows of the other side for which ON is true.
+/// Whether ON is true on the pair of a row of a side with a row of the other side.
+fn on_holds<L: Versions>(
+    alloc: Global,
+    plan: &Plan,
+    side: Side,
+    row: &Row,
+    other: &Row,
+    env: &Env<'_>,
+    versions: &L,
+) -> Result<bool, Refusal>
+    ensures { Gives (holds_on (record { env = env.now; versions = L.row_of versions.now }) plan.now.on (spec.pair_at side row.now other.now)) result }
+{
+    match side {
+        Side::Left => pair_holds(alloc, &plan.on, row, other, env, versions),
+        Side::Right => pair_holds(alloc, &plan.on, other, row, env, versions),
+    }
+}
+
+/// The pairs of a row of a side with these rows of the other side for which ON is true. No other pair is made.
 fn true_pairs<L: Versions>(
     alloc: Global,
     plan: &Plan,
@@ -96,8 +115,8 @@ fn true_pairs<L: Versions>(
 {
     let mut found = List::new(alloc);
     for other in others {
-        let made = pair_at(alloc, side, row, other)?;
-        if holds(alloc, &plan.on, &made, env, versions)? {
+        if on_holds(alloc, plan, side, row, other, env, versions)? {
+            let made = pair_at(alloc, side, row, other)?;
             push(&mut found, made)?;
         }
     }
