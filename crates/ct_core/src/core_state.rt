@@ -139,7 +139,7 @@ fn command_takes_view(what: &Command) -> bool
 }
 
 impl<D> Core<D> {
-    ghost use Rattle.std.specs.Prelude.{false, true, ℕ, IfErr, IfOk, OnErr, OnOk};
+    ghost use Rattle.std.specs.Prelude.{false, true, ℕ, IfErr, IfOk, IsOkAnd, OnErr, OnOk};
     ghost use Rattle.ct_bind_names.specs.Catalogue.{is_declared};
     ghost use Rattle.ct_database.specs.Waiting.{AreStoredIn};
     ghost use Rattle.ct_model.specs.Apply.{no_db};
@@ -416,6 +416,7 @@ impl<D> Core<D> {
     /// ROLLBACK of a session, in the same way.
     fn roll_back(&mut self, session: u8) -> Reply
         ensures taken { (m : Machine) → Stands self.old m → IsTaken m session (Sql stmt.Rollback) result self.new }
+        ensures told { is_memory result ≡ false }
         ensures disk { self.new.disk ≡ self.old.disk }
     {
         if !is_open(self.sessions.tran(session)) {
@@ -435,6 +436,7 @@ impl<D> Core<D> {
     ) -> Result<Reply, Memory>
         requires { what.now ≡ Sql statement.now }
         ensures ok { IfOk result (λ reply. (m : Machine) → Stands self.old m → IsTaken m session what.now reply self.new) }
+        ensures rolls_back { what.now ≡ Sql stmt.Rollback → IsOkAnd result (λ reply. is_memory reply ≡ false) }
         ensures fits { OnOk result ((m : Machine) → Stands self.old m → RowsFit (seen_by m (m.sessions session)) what.now) }
         ensures disk { self.new.disk ≡ self.old.disk }
         ensures err { OnErr result (StaysFor self.old self.new) }
@@ -448,6 +450,7 @@ impl<D> Core<D> {
 
     fn try_event(&mut self, alloc: Global, session: u8, what: &Command) -> Result<Reply, Memory>
         ensures ok { IfOk result (λ reply. (m : Machine) → Stands self.old m → IsTaken m session what.now reply self.new) }
+        ensures rolls_back { what.now ≡ Sql stmt.Rollback → IsOkAnd result (λ reply. is_memory reply ≡ false) }
         ensures fits { OnOk result ((m : Machine) → Stands self.old m → RowsFit (seen_by m (m.sessions session)) what.now) }
         ensures disk { self.new.disk ≡ self.old.disk }
         ensures err { OnErr result (StaysFor self.old self.new) }
@@ -470,12 +473,13 @@ impl<D> Core<D> {
     /// that does not fit its column, `TooLong` for one that does not fit its variable; `Blocked` for a key, or a key of the table,
     /// that another session holds; `Conflict` for a table or a key that was changed after the view of a SNAPSHOT transaction, which
     /// it ends; `Duplicate` for an INSERT of a key that is there; `Exhausted` where no version or no transaction number is left, each at most 2^62. Want of memory is `Refused`
-    /// with `Memory`; it may come at any event, and leaves the database and each session as it was. The order of the
+    /// with `Memory`; it may come at any event but ROLLBACK (`rolls_back`), and leaves the database and each session as it was. The order of the
     /// refusals is this project's own.
     ///
     /// The rows that the statement writes fit their table (`fits`); want of memory writes none.
     pub fn event(&mut self, alloc: Global, session: u8, what: &Command) -> Reply
         ensures follows { (m : Machine) → Stands self.old m → Follows m session what.now result }
+        ensures rolls_back { what.now ≡ Sql stmt.Rollback → is_memory result ≡ false }
         ensures stands { (m : Machine) → Stands self.old m → Stands self.new (after m session what.now result) }
         ensures fits { (m : Machine) → Stands self.old m → is_memory result ≡ false → RowsFit (seen_by m (m.sessions session)) what.now }
         ensures disk { self.new.disk ≡ self.old.disk }
