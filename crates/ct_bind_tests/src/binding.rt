@@ -201,7 +201,7 @@ const ON: Option<Keep> = Some(Keep {
     auto: true,
 });
 
-// ---- refusals of statements that do not run yet, as `ct_cases` has those of others
+// ---- refusals of binding, without a database around them
 
 /// Statements, and what each is refused, or that it is bound.
 const REFUSED: [Row; 29] = [

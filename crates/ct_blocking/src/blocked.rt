@@ -19,7 +19,7 @@ fn refusal(alloc: Global, name: &Text, key: &Key, holder: u8) -> Result<Option<R
 }
 
 /// 1222 for the first of the keys of these writes that another session holds, with the least one that does; None where no other
-/// one holds any. The name is that of the table of the statement. `Memory` is the only error, and comes only where one does.
+/// one holds any. The name is that of the table of the statement. `Memory` is the only error.
 ///
 /// It costs a look-up for each write. T-SQL: 1222. That it comes at once, and names the first key and the least session, is this
 /// project's own.
@@ -56,7 +56,7 @@ fn held_at(
 }
 
 /// 1222 for a table of which another session holds a key: the first key of the table that the least such session holds; None
-/// where no other one holds any. `Memory` is the only error, and comes only where one does.
+/// where no other one holds any. `Memory` is the only error.
 ///
 /// T-SQL: 1222. That it comes at once, and names this key and this session, is this project's own.
 pub fn blocked_table(

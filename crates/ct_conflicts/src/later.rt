@@ -1,4 +1,4 @@
-ghost use Rattle.std.specs.Prelude.{◌≡◌, ℕ, ◌+◌, ◌≤◌, ◌++◌, ◌∷◌, [], List, length, drop, IfOk, OnOk, OnErr};
+ghost use Rattle.std.specs.Prelude.{◌≡◌, ℕ, ◌+◌, ◌≤◌, ◌++◌, ◌∷◌, [], List, length, drop, IfOk};
 ghost use Rattle.ct_types.specs.declared.entry.Entry.{Entry};
 ghost use Rattle.ct_conflicts.specs.Conflicts.{conflicting};
 ghost use Rattle.ct_conflicts.specs.Later.{IsLater};
@@ -57,19 +57,6 @@ impl Later {
             alloc: self.alloc,
             tables,
         })
-    }
-
-    /// Notes an entry by its place, counted from 1, behind those that were noted. `Memory` is the only error, and all is then as
-    /// before.
-    ///
-    /// It costs what [`Later::noted`] does.
-    pub fn note(&mut self, at: u64, entry: &Entry) -> Result<(), Memory>
-        ensures ok { OnOk result ((past : List Entry) (from : ℕ) → at ≡ length past + 1 → IsLater self.old past from → IsLater self.new (past ++ entry.now ∷ []) from) }
-        ensures err { OnErr result (self.new ≡ self.old) }
-    {
-        let made = self.noted(at, entry)?;
-        *self = made;
-        Ok(())
     }
 
     /// The transaction, by its number, that a statement of a transaction with this view conflicts with: the last one that altered

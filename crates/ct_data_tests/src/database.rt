@@ -202,7 +202,7 @@ fn net_row(alloc: Global, db: Result<Db, Memory>) -> Result<Option<Shown>, Memor
     }
 }
 
-/// A net row has the context of the last change alone. No statement gives a context yet; other net changes are cases of `ct_cases`.
+/// A net row has the context of the last change alone. Other net changes are cases of `ct_cases`.
 #[test]
 fn net_changes_with_contexts(rt: HostRuntime) -> Result<(), Fail> {
     let alloc = rt.alloc();

@@ -15,7 +15,7 @@ pub enum Refusal {
     NotNull { column: Text },
     /// 1205: chosen to end so that other sessions go on.
     Victim,
-    /// 1222: another session's pending writes hold a target key.
+    /// 1222: another session's pending writes hold a target key, or a key of the target table.
     Blocked { table: Text, key: Key, holder: u8 },
     /// 2627: the first key that repeats.
     Duplicate { table: Text, key: Key },
@@ -75,7 +75,7 @@ pub enum Refusal {
     Exhausted { limit: u64 },
     /// An earlier event of this opening, by its number, met a disk fault.
     Stopped { event: u64 },
-    /// A sentence of the language of a form that this server does not run yet.
+    /// A command of a script, as a copy or an advance of the clock, which this server does not carry out yet.
     NotBuilt,
 }
 
