@@ -13,7 +13,8 @@ use ct_model::{Db, Table, find_table};
 use ct_types::{Act, Keep, List, Memory, Min, Schema, Tracked, Write};
 use std::alloc::Global;
 
-fn any_tracked(writes: &[Write]) -> bool
+/// Whether one of the writes is tracked.
+pub fn any_tracked(writes: &[Write]) -> bool
     ensures { result ≡ list_any (λ write. write.tracked) writes.now }
 {
     writes.iter().any(|write| write.tracked)
@@ -106,7 +107,8 @@ fn database_applies(db: &Db, version: u64, draws: bool, keep: Option<Keep>) -> b
     }
 }
 
-fn min_rises(min: u64, tracked: Option<Tracked>) -> bool
+/// Whether a minimum is above that of a table, which is tracked.
+pub fn min_rises(min: u64, tracked: Option<Tracked>) -> bool
     ensures { IsTrue result ↔ MinRises min tracked }
 {
     match tracked {
@@ -141,7 +143,8 @@ fn are_above(id: u32, minima: &[Min]) -> bool
     minima.iter().all(|listed| id < listed.table)
 }
 
-fn are_rising(minima: &[Min]) -> bool
+/// Whether minima stand by rising table, each table once.
+pub fn are_rising(minima: &[Min]) -> bool
     ensures { IsTrue result ↔ EachToLater (λ a b. a.table < b.table) minima.now }
 {
     match minima {

@@ -8,7 +8,7 @@ use ct_types::{Act, Entry, Kept, Memory};
 use std::alloc::Global;
 
 /// The greatest version, time and transaction number.
-const MOST: u64 = 1 << 62;
+pub const MOST: u64 = 1 << 62;
 
 fn is_unused(xdes: u64, kept: &[Kept]) -> bool
     ensures { IsTrue result ↔ AllByRecursion (λ one. one.xdes ≢ xdes) kept.now }
@@ -31,20 +31,22 @@ fn xdes_applies(db: &Db, act: &Act, xdes: u64) -> bool
     }
 }
 
-fn version_applies(db: &Db, entry: &Entry) -> bool
-    ensures { IsTrue result ↔ (entry.now.version ≡ (if entry.now.draws then db.now.version + 1 else db.now.version)) }
+/// Whether an entry has the version that it may have behind this one: the next where it draws, and else the same.
+pub fn version_applies(version: u64, entry: &Entry) -> bool
+    ensures { IsTrue result ↔ (entry.now.version ≡ (if entry.now.draws then version + 1 else version)) }
 {
     if entry.draws {
-        entry.version >= 1 && entry.version - 1 == db.version
+        entry.version >= 1 && entry.version - 1 == version
     } else {
-        entry.version == db.version
+        entry.version == version
     }
 }
 
-fn time_applies(db: &Db, entry: &Entry) -> bool
-    ensures { IsTrue result ↔ ((entry.now.version ≤ 2 ^ 62) × (db.now.time ≤ entry.now.time) × (entry.now.time ≤ 2 ^ 62)) }
+/// Whether an entry's time is not before this one, and its time and version are at most 2^62.
+pub fn time_applies(time: u64, entry: &Entry) -> bool
+    ensures { IsTrue result ↔ ((entry.now.version ≤ 2 ^ 62) × (time ≤ entry.now.time) × (entry.now.time ≤ 2 ^ 62)) }
 {
-    entry.version <= MOST && db.time <= entry.time && entry.time <= MOST
+    entry.version <= MOST && time <= entry.time && entry.time <= MOST
 }
 
 /// Whether an entry applies to a database: its version is the next one where it draws and else the last, its time is
@@ -55,8 +57,8 @@ fn time_applies(db: &Db, entry: &Entry) -> bool
 pub fn applies(alloc: Global, db: &Db, entry: &Entry) -> Result<bool, Memory>
     ensures { IfOk result (λ b. IsTrue b ↔ Applies db.now entry.now) }
 {
-    if version_applies(db, entry)
-        && time_applies(db, entry)
+    if version_applies(db.version, entry)
+        && time_applies(db.time, entry)
         && xdes_applies(db, &entry.act, entry.xdes)
     {
         act_applies(alloc, db, entry.version, entry.draws, &entry.act)

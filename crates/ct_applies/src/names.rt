@@ -58,7 +58,7 @@ pub(crate) fn is_in_sys(name: &[u8]) -> bool
 }
 
 /// Whether two names are the same, with ASCII letters folded.
-pub(crate) fn is_same_name(a: &[u8], b: &[u8]) -> bool
+pub fn is_same_name(a: &[u8], b: &[u8]) -> bool
     ensures { IsTrue result ↔ (folded a.now ≡ folded b.now) }
 {
     a.eq_ignore_ascii_case(b)

@@ -7,7 +7,8 @@ ghost use Rattle.ct_model.specs.Schemas.{IsType, IsColumn, IsKeyColumn, IsKey, I
 use crate::names::{is_in_sys, is_name, is_same_name, is_table_name};
 use ct_types::{ColType, Column, Schema, Text};
 
-pub(crate) fn name_bytes(name: &Text) -> &[u8]
+/// The bytes of a name.
+pub fn name_bytes(name: &Text) -> &[u8]
     ensures { result.now ≡ name.now }
 {
     name.as_str().as_bytes()
@@ -94,7 +95,7 @@ fn are_distinct(columns: &[Column]) -> bool
 }
 
 /// Whether a definition may give a table this schema.
-pub(crate) fn is_schema(schema: &Schema) -> bool
+pub fn is_schema(schema: &Schema) -> bool
     ensures { IsTrue result ↔ IsSchema schema.now }
 {
     let name = name_bytes(&schema.name);

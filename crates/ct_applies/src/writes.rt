@@ -23,7 +23,8 @@ fn is_row_of(schema: &Schema, key: &Key, row: &Row) -> bool
     row_fits(schema, row) && is_key_of(schema, row, key)
 }
 
-fn row_applies(schema: &Schema, op: Op, key: &Key, row: &Option<Row>) -> bool
+/// Whether a write of this operation and key may have this row, or none, in a table with this schema.
+pub fn row_applies(schema: &Schema, op: Op, key: &Key, row: &Option<Row>) -> bool
     ensures { IsTrue result ↔ RowIsOf schema.now op key.now row.now }
 {
     match op {
@@ -35,7 +36,8 @@ fn row_applies(schema: &Schema, op: Op, key: &Key, row: &Option<Row>) -> bool
     }
 }
 
-fn context_applies(tracked: bool, context: &Option<Bin>) -> bool
+/// Whether a write that is tracked or not may have this context, or none.
+pub fn context_applies(tracked: bool, context: &Option<Bin>) -> bool
     ensures { IsTrue result ↔ ContextIsOf tracked context.now }
 {
     match context {
@@ -51,7 +53,7 @@ fn has_masks(tracked: Option<Tracked>) -> bool
 }
 
 /// Whether a mask has columns of the first ones alone.
-fn is_within(mask: u64, columns: usize) -> bool
+pub fn is_within(mask: u64, columns: usize) -> bool
     ensures { IsTrue result ↔ (mask < 2 ^ columns) }
 {
     columns >= 64 || mask >> columns == 0
@@ -77,7 +79,8 @@ pub(crate) fn mask_fits(table: &Table, op: Op, mask: u64) -> bool
     }
 }
 
-fn was_present(op: Op) -> bool
+/// Whether the key of a write of this operation is present before it.
+pub fn was_present(op: Op) -> bool
     ensures { result ≡ is_present_before op }
 {
     op != Op::Insert

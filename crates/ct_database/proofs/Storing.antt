@@ -41,7 +41,7 @@ row_of schema Update key (Some row) is = (same_count schema.columns row.0 is.0, 
 row_of schema Delete key None is = tt
 row_of schema Delete key (Some row) is = absurd is
 
-write_of : (write : Write) (found : Option Table) → IsSomeAnd found (WriteFits write) → IfSome found (λ table. IsRowStorable table.schema write.key write.row)
+pub write_of : (write : Write) (found : Option Table) → IsSomeAnd found (WriteFits write) → IfSome found (λ table. IsRowStorable table.schema write.key write.row)
 write_of write None fits = tt
 write_of write (Some table) fits = row_of table.schema write.op write.key write.row fits.row
 

@@ -70,6 +70,20 @@ impl Database {
         self.version
     }
 
+    /// The time of the last entry, in seconds.
+    pub fn time(&self) -> u64
+        ensures { result ≡ self.now.time }
+    {
+        self.time
+    }
+
+    /// The greatest number of a transaction.
+    pub fn last_xdes(&self) -> u64
+        ensures { result ≡ self.now.last_xdes }
+    {
+        self.last_xdes
+    }
+
     /// The settings of tracking, or none where it is off.
     pub fn keep(&self) -> Option<Keep>
         ensures { result ≡ self.now.keep }

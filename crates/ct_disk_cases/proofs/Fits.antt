@@ -1,5 +1,5 @@
 -- What is read can be spelled, and is spelled as it was read.
-use Rattle.std.proofs.Common.{◌≡◌, ◌<◌, ◌^◌, ℕ, List, [], ◌∷◌, length, map, Option, Some, None, refl, sym, ap, subst, ◌∙◌}
+use Rattle.std.proofs.Common.{◌≡◌, ◌<◌, ◌+◌, ◌^◌, ℕ, List, [], ◌∷◌, length, map, Option, Some, None, refl, sym, ap, subst, ◌∙◌}
 use Rattle.std.specs.List.{AllByRecursion}
 use Rattle.ct_types.specs.declared.value.Key.{Key}
 use Rattle.ct_types.specs.declared.value.Row.{Row}
@@ -10,6 +10,11 @@ use Rattle.ct_types.specs.declared.entry.Act.{Act}
 use Rattle.ct_types.specs.declared.entry.Act.TheVariants.{Commit, Define, Truncate, Enable, Disable, Database, Raise}
 use Rattle.ct_types.specs.declared.entry.Entry.{Entry}
 use Rattle.ct_types.specs.declared.piece.Piece.{Piece}
+use Rattle.ct_faults.specs.Disk.{Image}
+use Rattle.ct_model.specs.declared.db.Db.{Db}
+use Rattle.ct_pages.specs.declared.slot.Super.{Super}
+use Rattle.ct_replay.specs.Replay.{Adds}
+use Rattle.ct_recover.specs.Volume.{IsSteady, MayTake}
 use Rattle.ct_codec.specs.EntryReaders.{entry_of, piece_of}
 use Rattle.ct_codec.specs.Spellings.{TargetFits, WriteFits, ActFits, EntryFits, PieceFits, bare_key, bare_write, bare_act, bare, spell_entry}
 use Rattle.ct_codec.proofs.Combined.{whole_is}
@@ -57,3 +62,17 @@ entry_is_short bytes entry is short = subst (λ (spelled : List ℕ). length spe
 
 pub piece_fits : (bytes rest : List ℕ) (piece : Piece) → piece_of bytes ≡ Some (piece, rest) → PieceFits piece
 piece_fits bytes rest piece is = (law_piece.sound bytes rest piece is).1
+
+-- a payload that adds an entry is the spelling of it, so the entry can be spelled, in as many bytes
+pub added_fits : (db : Db) (payload : List ℕ) (entry : Entry) → Adds db payload entry → EntryFits (bare entry)
+added_fits db payload entry adds = (whole_is law_entry payload (bare entry) adds.spells).1
+
+pub added_is_short : (db : Db) (payload : List ℕ) (entry : Entry) → Adds db payload entry → length payload + 5 < 2 ^ 64 → length (spell_entry (bare entry)) + 5 < 2 ^ 64
+added_is_short db payload entry adds short =
+    subst (λ (spelled : List ℕ). length spelled + 5 < 2 ^ 64) (whole_is law_entry payload (bare entry) adds.spells).0 short
+
+-- a disk that is steady at a database takes an entry that a payload adds to that
+pub may_take :
+    (slot : Super) (used : ℕ) (content : Image) (images : Image → Type 0) (db : Db) (payload : List ℕ) (entry : Entry)
+    → IsSteady slot used content images db → Adds db payload entry → MayTake slot used content images entry
+may_take slot used content images db payload entry steady adds = record { db = db; steady = steady; applies = adds.applies }

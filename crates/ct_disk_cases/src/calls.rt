@@ -37,6 +37,7 @@ pub(crate) enum Answer {
     Failed,
     Number(u64),
     Bytes(Vec<u8>),
+    Text(String),
 }
 
 // ---- texts
@@ -166,6 +167,7 @@ pub(crate) fn write_told<K: Sink>(
         Answer::Failed => write_line(alloc, step, "Failed", out),
         Answer::Number(number) => write_number(alloc, step, *number, out),
         Answer::Bytes(bytes) => write_shown(alloc, step, bytes.as_slice(), out),
+        Answer::Text(text) => write_line(alloc, step, text.as_str(), out),
     }
 }
 

@@ -5,6 +5,7 @@ ghost use Rattle.ct_disk.specs.Mem.{content_of};
 
 use crate::bytes::bytes_of;
 use crate::calls::{Answer, Call, Place, call_of, cut, len, read, sync, write, write_told};
+use crate::openings::{self, find};
 use crate::stop::Stop;
 use ct_disk::MemDisk;
 use ct_faults::{Disk, Sink};
@@ -19,6 +20,9 @@ enum Step {
     Fuse(u64),
     Crash(Vec<u8>),
     Show(u8),
+    Open,
+    Find,
+    Append(Vec<u8>),
 }
 
 fn step_of(alloc: Global, text: &str) -> Result<Step, Stop> {
@@ -28,6 +32,9 @@ fn step_of(alloc: Global, text: &str) -> Result<Step, Stop> {
         "fuse" => Ok(Step::Fuse(rest.parse::<u64>()?)),
         "crash" => Ok(Step::Crash(bytes_of(alloc, rest)?)),
         "show" => Ok(Step::Show(rest.parse::<u8>()?)),
+        "open" => Ok(Step::Open),
+        "find" => Ok(Step::Find),
+        "append" => Ok(Step::Append(bytes_of(alloc, rest)?)),
         _ => Ok(Step::Call(call_of(alloc, word, rest)?)),
     }
 }
@@ -67,6 +74,13 @@ fn crash(alloc: Global, disk: &mut MemDisk, torn: &[u8]) -> Result<Answer, Stop>
     }
 }
 
+/// Puts the disk of an answer in its place.
+fn put_back(disk: &mut MemDisk, made: (MemDisk, Result<Answer, Stop>)) -> Result<Answer, Stop> {
+    let (after, answer) = made;
+    *disk = after;
+    answer
+}
+
 /// Shows an area.
 fn show(alloc: Global, disk: &MemDisk, area: u8) -> Result<Answer, Stop> {
     if area >= 6 {
@@ -89,6 +103,15 @@ fn make(alloc: Global, disk: &mut MemDisk, step: &Step) -> Result<Answer, Stop> 
         }
         Step::Crash(torn) => crash(alloc, disk, torn.as_slice()),
         Step::Show(area) => show(alloc, disk, *area),
+        Step::Open => {
+            let before = mem::replace(disk, MemDisk::empty(alloc)?);
+            put_back(disk, openings::open(alloc, before))
+        }
+        Step::Find => find(alloc, disk),
+        Step::Append(payload) => {
+            let before = mem::replace(disk, MemDisk::empty(alloc)?);
+            put_back(disk, openings::append(alloc, before, payload.as_slice()))
+        }
     }
 }
 

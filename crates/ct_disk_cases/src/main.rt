@@ -1,5 +1,6 @@
 //! The disk cases: a program that reads rows of bytes and of steps over disks, and writes what each comes to, so that the bytes of
-//! entries and pieces and the calls of disks are tested by data, which costs no proof.
+//! entries and pieces, the calls of disks, and what disks stand for, also after failures and crashes, are tested by data, which costs
+//! no proof.
 //!
 //! Standard input is UTF-8 text in lines. A line that begins with one of these words and a blank is a row, and what stands behind
 //! the blank is its text; every other line is for the reader.
@@ -9,6 +10,7 @@
 //! | `entry` | the entry whose spelling these bytes are, with the number of its bytes; or `NotCanonical` |
 //! | `piece` | the piece with whose spelling these bytes begin, with the number of its bytes; or `NotCanonical` |
 //! | `disk` | what the steps tell, of a disk in memory; before the first `; ` stands an area, with the bytes that it has at first |
+//! | `every` | what such a row of a disk in memory tells when the one `fail *` in it is `fail 1`, then `fail 2`, up to the first number at which nothing fails; what a number tells stands there only where the number before told something else, with a line `or` between |
 //! | `files` | what the calls tell, of a disk over the files of a folder, whose name stands before the first `; `; or `Failed` |
 //!
 //! Bytes are pairs of hexadecimal digits, with blanks anywhere between the pairs; before the pairs up to the next blank may stand `N*`,
@@ -29,14 +31,18 @@
 //! |---|---|---|
 //! | `fail N` | the call of this number is to fail | |
 //! | `fuse N` | all calls past this number are to fail | |
-//! | `crash BYTES` | a crash, which tears what was not synced with these bytes | |
+//! | `crash BYTES` | a crash, which tears what was not synced with these bytes; with none it leaves what reads give. Calls are counted anew | |
 //! | `show A` | | the bytes of an area |
+//! | `find` | reads what the disk stands for, and writes nothing | the version of its database, the number of entries in its logs, and the used bytes of the last; or where it is foreign |
+//! | `open` | opens the disk | the used bytes of its log, its slot and its database; or where it is foreign |
+//! | `append BYTES` | opens the disk, and appends the entry that is spelled so | the used bytes of the log then; or `LogFull used N needed N`, or `no entry that applies`; or where the disk is foreign |
 //!
 //! Before each write, cut and sync the disk makes itself ready for it.
 //!
-//! Written are, for each row, the row as it stands, and a line of two blanks and what its text comes to. Entries and pieces have the
-//! form of `Debug`; behind one stands a line that tells how many bytes it has, and whether it is spelled the same again. Of a disk
-//! there is a line `  STEP: ..` for each step that tells something; a call that fails tells `Failed`.
+//! Written are, for each row, the row as it stands, and a line of two blanks and what its text comes to. Entries, pieces, slots and
+//! databases have the form of `Debug`; behind an entry or a piece stands a line that tells how many bytes it has, and whether it is
+//! spelled the same again. Of a disk there is a line `  STEP: ..` for each step that tells something; a call that fails tells
+//! `Failed`, and so does an opening, a reading or an append of which a call failed.
 //!
 //! The program ends with 0, but with 1 where the input is no UTF-8, a row is not of its form, or memory was wanting.
 #![tactic(auto)]
@@ -45,13 +51,16 @@ mod bytes;
 mod calls;
 mod disks;
 mod entries;
+mod every;
 mod files;
+mod openings;
 mod pieces;
 mod stop;
 
 use crate::bytes::bytes_of;
 use crate::disks::write_disk;
 use crate::entries::write_entry;
+use crate::every::write_every;
 use crate::files::write_files;
 use crate::pieces::write_piece;
 use crate::stop::Stop;
@@ -74,6 +83,7 @@ fn write_answer<R: Files<File = File>, K: Sink>(
         "entry" => write_entry(alloc, bytes_of(alloc, text)?.as_slice(), out),
         "piece" => write_piece(alloc, bytes_of(alloc, text)?.as_slice(), out),
         "disk" => write_disk(alloc, text, out),
+        "every" => write_every(alloc, text, out),
         _ => write_files(rt, alloc, text, out),
     }
 }
@@ -86,7 +96,7 @@ fn write_row<R: Files<File = File>, K: Sink>(
     out: &mut K,
 ) -> Result<(), Stop> {
     let (word, text) = line.split_once(' ').unwrap_or(("", ""));
-    if !matches!(word, "entry" | "piece" | "disk" | "files") {
+    if !matches!(word, "entry" | "piece" | "disk" | "every" | "files") {
         return Ok(());
     }
     let _ = write_all(out, line.as_bytes());

@@ -12,6 +12,7 @@ use Rattle.ct_pages.specs.declared.slot.Super.{Super}
 use Rattle.ct_pages.proofs.Moves.{leaves_now, Runs-after}
 use Rattle.ct_replay.specs.Replay.{Adds}
 use Rattle.ct_found.specs.Found.{last_of, Stands, StandsFor}
+use Rattle.ct_found.specs.Laws.{Elsewhere}
 use Rattle.ct_found.proofs.Apart.{last_named}
 use Rattle.ct_found.proofs.Stays.{one_more_stands, same_records_stand, only_named}
 use Rattle.ct_recover.specs.declared.fault.VolumeError.{VolumeError}
@@ -114,3 +115,13 @@ pub append_steady_on : (result : Result (Unit {0}) VolumeError) (slot : Super) (
 append_steady_on (Ok done) slot used area end size content now images left entry body is frame from end_is only appended =
     λ db steady applies. append_steady slot used area end size content now images left db entry body is steady applies frame end_is from only appended
 append_steady_on (Err e) slot used area end size content now images left entry body is frame from end_is only appended = tt
+
+-- and no other area has changed
+pub append_elsewhere_on : (result : Result (Unit {0}) VolumeError) (slot : Super) (used area : ℕ) (content now : Image) (images : Image → Type 0) (entry : Entry) (body : List ℕ) → area ≡ last_of slot → MayTake slot used content images entry
+    → OnOk result ((payloads : List (List ℕ)) → AllAreLogs area payloads used images → Changes area (IsAppended payloads used body) content now) → OnOk result (Elsewhere (last_of slot) content now)
+append_elsewhere_on (Ok done) slot used area content now images entry body is takes appended =
+    let payloads = takes.steady.stands.makes.last.payloads in
+    let all = subst (λ (n : ℕ). AllAreLogs n payloads used images) (sym is) (all_are_logs slot used content images takes.db takes.steady) in
+    let changes = subst (λ (n : ℕ). Changes n (IsAppended payloads used body) content now) is (appended payloads all) in
+    changes.elsewhere
+append_elsewhere_on (Err e) slot used area content now images entry body is takes appended = tt

@@ -1,5 +1,8 @@
 pub mod Appending
 pub mod Beginnings
+pub mod Condenses
+pub mod Opens
+pub mod Readies
 pub mod Replays
 pub mod Settles
 pub mod Standing

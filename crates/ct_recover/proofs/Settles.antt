@@ -10,13 +10,13 @@ use Rattle.ct_pages.specs.Fresh as pages
 use Rattle.ct_pages.specs.Slots.{IsUnfinished}
 use Rattle.ct_pages.proofs.Decoding.{one_slot, unfinished_names_none}
 use Rattle.ct_found.specs.Found.{Stands, StandsFor}
-use Rattle.ct_recover.specs.Laws.{SettledStands, SettlingStands}
+use Rattle.ct_recover.specs.Laws.{SettledStands, SettledKeeps, SettlingStands}
 
 empty_log : (bytes : List ℕ) → bytes ≡ 0 ∷ [] → IsLog [] 1 bytes
 empty_log bytes is = record { gate = 0; ignored = []; split = is; closed = λ e. cc; fit = tt; used_is = omega arith }
 
 -- a finished disk stands for the empty database
-fresh_stands : (image : Image) → pages.IsFresh image → Stands fresh_slot image no_db 0 1
+pub fresh_stands : (image : Image) → pages.IsFresh image → Stands fresh_slot image no_db 0 1
 fresh_stands image fresh = record {
   names = fresh.names;
   makes = record {
@@ -39,6 +39,14 @@ finishing_stands old new may = ⊎_elim (λ unfinished. inl (record { unfinished
 stands_empty : (image : Image) (db : Db) → IsUnfinished (image 0) → StandsFor image db → db ≡ no_db
 stands_empty image db unfinished stands = ⊎_elim (λ fresh. fresh.db_is) (λ one. absurd (unfinished_names_none (image 0) one.0 unfinished one.3.names)) stands
 
+pub settled_keeps : SettledKeeps
+settled_keeps old new slot other db records used settled stands = ⊎_elim
+    (λ same.
+    let there : Stands other new db records used = subst (λ (i : Image). Stands other i db records used) (sym same) stands in
+    subst (λ s. Stands s new db records used) (one_slot (new 0) other slot there.names settled.names) there)
+    (λ was. absurd (unfinished_names_none (old 0) other was.0 stands.names))
+    settled.change
+
 abbrev BySlot : Super → Image → Db → Type 0
 BySlot slot image db = (records : ℕ) × (used : ℕ) × Stands slot image db records used
 
@@ -48,9 +56,7 @@ settled_stands old new slot db settled stands = ⊎_elim stayed finished settled
     stayed : new ≡ old → BySlot slot new db
     stayed same = ⊎_elim
         (λ fresh. absurd (unfinished_names_none (new 0) slot (subst (λ (i : Image). IsUnfinished (i 0)) (sym same) fresh.unfinished) settled.names))
-        (λ one.
-        let there : Stands one.0 new db one.1 one.2 = subst (λ (i : Image). Stands one.0 i db one.1 one.2) (sym same) one.3 in
-        (one.1, one.2, subst (λ s. Stands s new db one.1 one.2) (one_slot (new 0) one.0 slot there.names settled.names) there))
+        (λ one. (one.1, one.2, settled_keeps old new slot one.0 db one.1 one.2 settled one.3))
         stands
 
     finished : (IsUnfinished (old 0) × pages.IsFinished old new) → BySlot slot new db

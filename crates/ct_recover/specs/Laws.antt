@@ -15,6 +15,11 @@ StandsIsValid = (image : Image) (db : Db) → StandsFor image db → IsValid db
 abbrev pub SettledStands : Type 0
 SettledStands = (old new : Image) (slot : Super) (db : Db) → IsSettled old new slot → StandsFor old db → (records : ℕ) × (used : ℕ) × Stands slot new db records used
 
+-- and where a slot was current, by the same records, with the same used bytes in its last log
+abbrev pub SettledKeeps : Type 0
+SettledKeeps =
+    (old new : Image) (slot other : Super) (db : Db) (records used : ℕ) → IsSettled old new slot → Stands other old db records used → Stands slot new db records used
+
 -- what a crash may leave of that is what it may have left before, or stands for what reads gave
 abbrev pub SettlingStands : Type 0
 SettlingStands = (content old new : Image) (db : Db) → StandsFor content db → MaySettle content old new → (new ≡ old) ⊎ StandsFor new db

@@ -1,4 +1,4 @@
-ghost use Rattle.std.specs.Prelude.{◌≡◌, ◌≤◌, ◌↔◌, IfOk, IsErrOf};
+ghost use Rattle.std.specs.Prelude.{◌≡◌, ◌<◌, ◌≤◌, ◌↔◌, IfOk, IsErrOf};
 ghost use Rattle.ct_faults.specs.Causes.{Rose};
 ghost use Rattle.ct_faults.specs.Disk.{Same, Runs, TakesRoom};
 ghost use Rattle.ct_model.specs.Apply.{no_db};
@@ -15,10 +15,11 @@ use ct_types::Memory;
 use std::alloc::Global;
 
 /// What the areas that a slot names make: the database of its checkpoint, or the empty one, with the entries of its logs
-/// applied.
+/// applied. At least one byte of the last log is used, its closed gate, whatever disk it is.
 pub fn read_named<D: Disk>(alloc: Global, disk: &mut D, slot: Super) -> Result<Found, OpenFault>
     requires { IsCanonical slot }
     ensures reads { D.honest disk.old → ReadsNamed slot (D.content disk.old) result }
+    ensures used { IfOk result (λ found. 0 < found.used) }
     ensures honest { D.honest disk.old ↔ D.honest disk.new }
     ensures content { D.honest disk.old → D.content disk.new ≡ D.content disk.old }
     ensures images { D.honest disk.old → Runs (D.clock disk.old) (D.clock disk.new) (D.images disk.old) (D.images disk.new) Same }

@@ -60,6 +60,7 @@ pub fn replay_logs<D: Disk>(
     requires canonical { IsCanonical slot }
     requires begins { D.honest disk.old → Begins slot (D.content disk.old) start }
     ensures reads { D.honest disk.old → ReadsNamed slot (D.content disk.old) result }
+    ensures used { IfOk result (λ found. 0 < found.used) }
     ensures honest { D.honest disk.old ↔ D.honest disk.new }
     ensures content { D.honest disk.old → D.content disk.new ≡ D.content disk.old }
     ensures images { D.honest disk.old → Runs (D.clock disk.old) (D.clock disk.new) (D.images disk.old) (D.images disk.new) Same }

@@ -7,6 +7,7 @@ ghost use Rattle.ct_model.specs.Applies.{Applies};
 ghost use Rattle.ct_model.specs.Apply.{apply as applied};
 ghost use Rattle.ct_pages.specs.Slots.{IsCanonical};
 ghost use Rattle.ct_found.specs.Found.{last_of};
+ghost use Rattle.ct_found.specs.Laws.{Elsewhere};
 ghost use Rattle.ct_recover.specs.Volume.{IsSteady, MayTake, MayAppendTo, IsFullExactly, IsRefusal};
 
 use crate::VolumeError;
@@ -79,7 +80,8 @@ impl<D: Disk> Volume<D> {
     /// Appends an entry to the last log. Memory and room are taken before the first call of the disk that writes.
     ///
     /// The entry can be spelled, and applies to the database for which the disk stands. At each moment of the call a crash
-    /// leaves a disk that stands for this database, or for it with the entry applied; after Ok for the latter.
+    /// leaves a disk that stands for this database, or for it with the entry applied; after Ok for the latter, and no area
+    /// but that of the last log has changed.
     ///
     /// `LogFull` comes exactly where the log would have more than 67,108,864 bytes. After it, and after `Memory`, the disk
     /// stands for what it stood for. `DiskFault` comes only where the disk's count of faults rose; the disk is to be opened
@@ -107,6 +109,8 @@ impl<D: Disk> Volume<D> {
         // after Ok the latter
         ensures appended { D.honest self.old.disk → OnOk result ((db : Db) → IsSteady self.old.current self.old.log.used (D.content self.old.disk) (D.images self.old.disk (D.clock self.old.disk)) db → Applies db entry.now
             → IsSteady self.new.current self.new.log.used (D.content self.new.disk) (D.images self.new.disk (D.clock self.new.disk)) (applied db entry.now)) }
+
+        ensures elsewhere { D.honest self.old.disk → OnOk result (Elsewhere (last_of self.old.current) (D.content self.old.disk) (D.content self.new.disk)) }
 
         // after LogFull and Memory the former, with no change
         ensures kept_content { D.honest self.old.disk → IfErr result (λ e. IsRefusal e → D.content self.new.disk ≡ D.content self.old.disk) }

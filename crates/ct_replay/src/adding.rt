@@ -11,7 +11,7 @@ use ct_types::{Entry, Memory};
 use std::alloc::Global;
 
 /// The entry that bytes spell, without the keys that its rows have, or none.
-fn spelled_entry(alloc: Global, payload: &[u8]) -> Result<Option<Entry>, Memory>
+pub fn spelled_entry(alloc: Global, payload: &[u8]) -> Result<Option<Entry>, Memory>
     ensures { IfOk result (λ found. found ≡ entry_of payload.now) }
 {
     match get_entry(alloc, payload) {

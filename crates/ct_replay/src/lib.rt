@@ -10,6 +10,7 @@ mod keys;
 mod law;
 mod reading;
 
+pub use adding::{added, spelled_entry};
 pub use law::{
     is_replay, one_break, one_entry, one_more, one_replay, replays_do_not_break, same_records,
 };

@@ -1,3 +1,0 @@
-pub mod Condenses
-pub mod Opens
-pub mod Readies

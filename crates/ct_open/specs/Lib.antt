@@ -1,2 +1,0 @@
-pub mod Condensing
-pub mod Opening

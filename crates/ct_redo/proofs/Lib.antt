@@ -1,0 +1,3 @@
+mod Listed
+mod Numbers
+mod Puts

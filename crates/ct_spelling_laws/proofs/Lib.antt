@@ -1,0 +1,9 @@
+pub mod Lengths
+pub mod Texts
+pub mod Values
+pub mod Definitions
+pub mod Writes
+pub mod Entries
+pub mod Commits
+pub mod Pieces
+pub mod Standing
