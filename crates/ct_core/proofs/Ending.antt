@@ -8,9 +8,7 @@ use Rattle.ct_bind.specs.Binding.{binding}
 use Rattle.ct_session.specs.Sessions.{is_open}
 use Rattle.ct_machine.specs.declared.decision.Decision.TheVariants.{Ends, Refuses}
 use Rattle.ct_machine.specs.Decide.{commits, decide, decide_bound, once_allowed}
-use Rattle.ct_machine.specs.Fits.{RowsFit}
 use Rattle.ct_state.specs.Machine.{Machine}
-use Rattle.ct_state.specs.Seen.{Seen}
 
 module _ (m : Machine) (s : ℕ) where
   pub commit_open : is_open (m.sessions s).tran ≡ true → decide m s (Sql stmt.Commit) ≡ commits (m.sessions s).pending
@@ -28,12 +26,3 @@ module _ (m : Machine) (s : ℕ) where
   pub rollback_closed : is_open (m.sessions s).tran ≡ false → decide m s (Sql stmt.Rollback) ≡ Refuses NoRollback
   unfolding decide
   rollback_closed none = ap (λ (test : Bool). once_allowed m s stmt.Rollback (demand test NoRollback)) none
-
--- neither writes a row
-pub commit_fits : (seen : Seen) → RowsFit seen (Sql stmt.Commit)
-unfolding binding
-commit_fits seen = λ write is. absurd cc
-
-pub rollback_fits : (seen : Seen) → RowsFit seen (Sql stmt.Rollback)
-unfolding binding
-rollback_fits seen = λ write is. absurd cc

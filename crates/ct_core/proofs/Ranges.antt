@@ -1,5 +1,5 @@
 -- An entry that has room leaves a core in range.
-use Rattle.std.proofs.Common.{◌≡◌, ℕ, ◌+◌, ◌^◌, ◌≤◌, nat_le, Bool, true, false, ◌&&◌, cond, [], Option, None, Some, refl, sym, ap, subst, arith, tests}
+use Rattle.std.proofs.Common.{◌≡◌, ℕ, ◌+◌, ◌^◌, ◌≤◌, nat_le, Bool, true, false, ◌&&◌, cond, [], Option, None, Some, refl, sym, ap, subst, arith, leb-true, le-leb}
 use Rattle.ct_types.specs.declared.entry.Act.{Act}
 use Rattle.ct_types.specs.declared.entry.Entry.{Entry}
 use Rattle.ct_model.specs.declared.db.Db.{Db}
@@ -23,10 +23,10 @@ both true b e = (refl, e)
 both false b e = cc
 
 pub at_most : (a b : ℕ) → nat_le a b ≡ true → a ≤ b
-at_most a b e = search (tests, arith)
+at_most a b e = leb-true a b e
 
 pub at_least : (a b : ℕ) → a ≤ b → nat_le a b ≡ true
-at_least a b e = search (tests, arith)
+at_least a b e = le-leb a b e
 
 -- the next number stays in range where the one that is used has room
 pub next_in_range : (drawn : Option ℕ) (next : ℕ) → xdes_or next drawn ≤ 2 ^ 62 → next ≤ 2 ^ 62 + 1 → next_xdes next drawn ≤ 2 ^ 62 + 1

@@ -1,7 +1,6 @@
 -- What statements commit is what the database in memory can store.
-use Rattle.std.proofs.Common.{◌≡◌, ◌≢◌, ℕ, ◌+◌, ◌==◌, ◌<◌, ◌≤◌, Bool, true, false, cond, List, [], ◌∷◌, map, Option, None, Some, IfSome, Result, Ok, Err, IfOk, MatchBool, if◌then◌else◌, refl, sym, ap, subst, ◌∙◌, arith}
+use Rattle.std.proofs.Common.{◌≡◌, ◌≢◌, ℕ, ◌+◌, ◌==◌, ◌<◌, ◌≤◌, Bool, true, false, cond, List, [], ◌∷◌, map, Option, None, Some, IfSome, Result, Ok, Err, IfOk, MatchBool, if◌then◌else◌, refl, sym, ap, subst, ◌∙◌, arith, eqb-true}
 use Rattle.std.specs.List.{AllByRecursion}
-use Rattle.std.proofs.lemmas.Bool.Decides.{nat_tests}
 use Rattle.ct_types.specs.Answers.{Gives}
 use Rattle.ct_types.specs.declared.bound.Bound.{Bound}
 use Rattle.ct_types.specs.declared.bound.Bound.TheVariants.{Write as write_bound}
@@ -82,7 +81,7 @@ has_id [] id table found = absurd cc
 has_id (first ∷ tables) id table found = by (first.schema.id == id) refl found (has_id tables id table)
   where
     by : (test : Bool) → test ≡ (first.schema.id == id) → cond test (Some first) (table_of tables id) ≡ Some table → (table_of tables id ≡ Some table → table.schema.id ≡ id) → table.schema.id ≡ id
-    by true is here later = let same : first ≡ table = cc in subst (λ (it : Table). it.schema.id ≡ id) same (grind (arith, nat_tests))
+    by true is here later = let same : first ≡ table = cc in subst (λ (it : Table). it.schema.id ≡ id) same (eqb-true first.schema.id id (sym is))
     by false is here later = later here
 
 row_storable : (schema : Schema) (key : Key) (row : Option Row) → IfSome row (IsRowOf schema key) → IsRowStorable schema key row

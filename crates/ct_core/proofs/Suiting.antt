@@ -30,7 +30,6 @@ use Rattle.ct_session.specs.Sessions.{is_open}
 use Rattle.ct_session.specs.declared.tran.Tran.{Tran}
 use Rattle.ct_session.specs.declared.tran.Tran.TheVariants as tran
 use Rattle.ct_machine.specs.Decide.{allowed}
-use Rattle.ct_machine.specs.Fits.{AnswerFits}
 use Rattle.ct_core.specs.Suits.{Suits, bound_of}
 
 -- ---- variables
@@ -45,18 +44,9 @@ unfolding variable_from is_declared
 declared_is name at [] = refl
 declared_is name at (variable ∷ more) = found_or_more (same variable.name name) (at, variable.kind) (variable_from name (at + 1) more) (is_declared more name) (declared_is name (at + 1) more)
 
--- a statement that writes rows
-abbrev IsWrite : Stmt → Type 0
-IsWrite (stmt.Write context write) = Unit {0}
-IsWrite other = ⊥
-
-abbrev IsOfWrites : Stmt → Bound → Type 0
-IsOfWrites it (Write write) = IsWrite it
-IsOfWrites it other = Unit {0}
-
--- what a statement is bound to suits it, where it may stand; and it is a write where the statement is
+-- what a statement is bound to suits it, where it may stand
 abbrev IsWellBound : Tran → List Variable → Stmt → Bound → Type 0
-IsWellBound t variables it bound = (allowed t it ≡ Ok tt → Suits t variables it bound) × IsOfWrites it bound
+IsWellBound t variables it bound = allowed t it ≡ Ok tt → Suits t variables it bound
 
 -- what may stand outside transactions alone stands where none is open
 closed : (t : Tran) → demand (not (is_open t)) InTransaction ≡ Ok tt → t ≡ tran.None
@@ -81,14 +71,14 @@ module _ (t : Tran) (tables : List Catalogued) (variables : List Variable) where
 
     database_names : (allowed t it ≡ Ok tt → t ≡ tran.None) → (keep : Option Keep) (given : DatabaseOption) → Kept Names (alter_database tables keep given)
     unfolding alter_database
-    database_names close None (option.TrackingOn options) = after_kept Names (settings defaults options) _ (λ keep. ok_kept Names (AlterDatabase (Some keep)) (close, tt))
+    database_names close None (option.TrackingOn options) = after_kept Names (settings defaults options) _ (λ keep. ok_kept Names (AlterDatabase (Some keep)) close)
     database_names close (Some old) (option.TrackingOn options) = err_kept Names _
     database_names close None option.TrackingOff = err_kept Names _
-    database_names close (Some old) option.TrackingOff = after_kept Names (demand (tracked_count tables == 0) (TablesTracked (tracked_count tables))) _ (λ _. ok_kept Names (AlterDatabase None) (close, tt))
+    database_names close (Some old) option.TrackingOff = after_kept Names (demand (tracked_count tables == 0) (TablesTracked (tracked_count tables))) _ (λ _. ok_kept Names (AlterDatabase None) close)
     database_names close None (option.Tracking options) = err_kept Names _
-    database_names close (Some old) (option.Tracking options) = after_kept Names (settings old options) _ (λ keep. ok_kept Names (AlterDatabase (Some keep)) (close, tt))
-    database_names close keep option.AllowSnapshotIsolation = ok_kept Names AcceptOption (λ may. tt, tt)
-    database_names close keep option.ReadCommittedSnapshot = ok_kept Names AcceptOption (λ may. tt, tt)
+    database_names close (Some old) (option.Tracking options) = after_kept Names (settings old options) _ (λ keep. ok_kept Names (AlterDatabase (Some keep)) close)
+    database_names close keep option.AllowSnapshotIsolation = ok_kept Names AcceptOption (λ may. tt)
+    database_names close keep option.ReadCommittedSnapshot = ok_kept Names AcceptOption (λ may. tt)
 
   names_of : (keep : Option Keep) (it : Stmt) → Kept (IsWellBound t variables it) (binding tables keep variables it)
   unfolding binding create enable disable truncate set_variable declare
@@ -98,33 +88,33 @@ module _ (t : Tran) (tables : List Catalogued) (variables : List Variable) where
       after_kept Names (demand (nat_le (length columns) 64) (TooMany 64)) _
       (λ _. after_kept Names (demand (nat_lt (length tables) 256) (TooMany 256)) _
       (λ _. after_kept Names (demand (not (is_some (table_named tables (table_name name)))) (Exists (table_name name))) _
-      (λ _. after_kept Names (schema_of (length tables + 1) (table_name name) columns key) _ (λ schema. ok_kept Names (CreateTable schema) (closed t, tt)))))
+      (λ _. after_kept Names (schema_of (length tables + 1) (table_name name) columns key) _ (λ schema. ok_kept Names (CreateTable schema) (closed t)))))
   names_of keep (stmt.EnableTracking name masks) =
       let Names : Bound → Type 0 = IsWellBound t variables (stmt.EnableTracking name masks) in
       after_kept Names (existing_table tables name) _
       (λ table. after_kept Names (demand (not (is_some table.tracked)) (AlreadyTracked (table_name name))) _
-      (λ _. after_kept Names (demand (is_some keep) TrackingOff) _ (λ _. ok_kept Names (EnableTracking table.schema.id masks) (closed t, tt))))
+      (λ _. after_kept Names (demand (is_some keep) TrackingOff) _ (λ _. ok_kept Names (EnableTracking table.schema.id masks) (closed t))))
   names_of keep (stmt.DisableTracking name) =
-      after_kept (IsWellBound t variables (stmt.DisableTracking name)) (tracked_table tables name) _ (λ table. ok_kept (IsWellBound t variables (stmt.DisableTracking name)) (DisableTracking table.schema.id) (closed t, tt))
+      after_kept (IsWellBound t variables (stmt.DisableTracking name)) (tracked_table tables name) _ (λ table. ok_kept (IsWellBound t variables (stmt.DisableTracking name)) (DisableTracking table.schema.id) (closed t))
   names_of keep (stmt.TruncateTable name) =
-      after_kept (IsWellBound t variables (stmt.TruncateTable name)) (existing_table tables name) _ (λ table. ok_kept (IsWellBound t variables (stmt.TruncateTable name)) (TruncateTable table.schema.id) (closed t, tt))
+      after_kept (IsWellBound t variables (stmt.TruncateTable name)) (existing_table tables name) _ (λ table. ok_kept (IsWellBound t variables (stmt.TruncateTable name)) (TruncateTable table.schema.id) (closed t))
   names_of keep (stmt.Write context write) =
-      after_kept (IsWellBound t variables (stmt.Write context write)) (write_of tables variables context write) _ (λ bound. ok_kept (IsWellBound t variables (stmt.Write context write)) (Write bound) (λ may. tt, tt))
-  names_of keep (stmt.Select query) = after_kept (IsWellBound t variables (stmt.Select query)) (select tables variables query) _ (λ bound. ok_kept (IsWellBound t variables (stmt.Select query)) (Select bound) (λ may. tt, tt))
-  names_of keep stmt.Begin = ok_kept (IsWellBound t variables stmt.Begin) Begin (closed t, tt)
-  names_of keep stmt.Commit = ok_kept (IsWellBound t variables stmt.Commit) Commit (λ may. tt, tt)
-  names_of keep stmt.Rollback = ok_kept (IsWellBound t variables stmt.Rollback) Rollback (λ may. tt, tt)
-  names_of keep (stmt.SetIsolation level) = ok_kept (IsWellBound t variables (stmt.SetIsolation level)) (SetIsolation level) (λ may. tt, tt)
-  names_of keep stmt.SetLockTimeout = ok_kept (IsWellBound t variables stmt.SetLockTimeout) SetLockTimeout (λ may. tt, tt)
+      after_kept (IsWellBound t variables (stmt.Write context write)) (write_of tables variables context write) _ (λ bound. ok_kept (IsWellBound t variables (stmt.Write context write)) (Write bound) (λ may. tt))
+  names_of keep (stmt.Select query) = after_kept (IsWellBound t variables (stmt.Select query)) (select tables variables query) _ (λ bound. ok_kept (IsWellBound t variables (stmt.Select query)) (Select bound) (λ may. tt))
+  names_of keep stmt.Begin = ok_kept (IsWellBound t variables stmt.Begin) Begin (closed t)
+  names_of keep stmt.Commit = ok_kept (IsWellBound t variables stmt.Commit) Commit (λ may. tt)
+  names_of keep stmt.Rollback = ok_kept (IsWellBound t variables stmt.Rollback) Rollback (λ may. tt)
+  names_of keep (stmt.SetIsolation level) = ok_kept (IsWellBound t variables (stmt.SetIsolation level)) (SetIsolation level) (λ may. tt)
+  names_of keep stmt.SetLockTimeout = ok_kept (IsWellBound t variables stmt.SetLockTimeout) SetLockTimeout (λ may. tt)
   names_of keep (stmt.SetVariable name e) =
       let Names : Bound → Type 0 = IsWellBound t variables (stmt.SetVariable name e) in
       then_kept (λ at. IsThere name) Names (declared_variable variables name) _ (declared_there name)
-      (λ at here. after_kept Names (value_of tables variables (kind_of_type at.1) e) _ (λ value. ok_kept Names (SetVariable at.0 value) (λ may. here, tt)))
+      (λ at here. after_kept Names (value_of tables variables (kind_of_type at.1) e) _ (λ value. ok_kept Names (SetVariable at.0 value) (λ may. here)))
   names_of keep (stmt.Declare name written given) =
       let Names : Bound → Type 0 = IsWellBound t variables (stmt.Declare name written given) in
       demand_kept Names (not (is_declared variables name)) (VariableExists name) _
       (λ free. after_kept Names (optional (value_of tables variables (kind_of_name written)) given) _
-      (λ value. after_kept Names (column_type written) _ (λ type. ok_kept Names (Declare name type value) (λ may. not_true (is_declared variables name) free, tt))))
+      (λ value. after_kept Names (column_type written) _ (λ type. ok_kept Names (Declare name type value) (λ may. not_true (is_declared variables name) free))))
     where
       not_true : (b : Bool) → not b ≡ true → b ≡ false
       not_true true e = cc
@@ -132,13 +122,4 @@ module _ (t : Tran) (tables : List Catalogued) (variables : List Variable) where
 
 pub suits_if : (t : Tran) (seen : Seen) (it : Stmt) (result : Result Bound Refusal) → allowed t it ≡ Ok tt → Gives (bound_of seen it) result → IfOk result (Suits t seen.variables it)
 suits_if t seen it (Err refusal) may gives = tt
-suits_if t seen it (Ok bound) may gives = ((names_of t (catalogue seen.db) seen.variables seen.db.keep it).holds bound gives).0 may
-
--- a write may stand anywhere
-nowhere : (t : Tran) (it : Stmt) (refusal : Refusal) → IsWrite it → allowed t it ≡ Err refusal → ⊥
-nowhere t (stmt.Write context write) refusal here e = cc
-nowhere t it refusal here e = here
-
--- so that a statement that may not stand where it stands writes no row
-pub refused_fits : (t : Tran) (seen : Seen) (it : Stmt) (refusal : Refusal) → allowed t it ≡ Err refusal → AnswerFits seen (bound_of seen it)
-refused_fits t seen it refusal e = λ write is. absurd (nowhere t it refusal ((names_of t (catalogue seen.db) seen.variables seen.db.keep it).holds (Write write) is).1 e)
+suits_if t seen it (Ok bound) may gives = ((names_of t (catalogue seen.db) seen.variables seen.db.keep it).holds bound gives) may

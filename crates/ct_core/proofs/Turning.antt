@@ -1,5 +1,5 @@
 -- What a core stands for once a session has turned to another state, and takes a view.
-use Rattle.std.proofs.Common.{◌≡◌, ℕ, ◌==◌, Bool, true, false, ◌≤◌, length, take, cond, List, Option, None, Some, refl, sym, ap, ap₂, subst, ◌∙◌, arith, tests}
+use Rattle.std.proofs.Common.{◌≡◌, ℕ, ◌==◌, Bool, true, false, ◌≤◌, length, take, cond, List, Option, None, Some, refl, sym, ap, ap₂, subst, ◌∙◌, eq-eqb}
 use Rattle.ct_types.specs.declared.command.Command.{Command}
 use Rattle.ct_types.specs.declared.command.Command.TheVariants.{Sql}
 use Rattle.ct_types.specs.declared.entry.Entry.{Entry}
@@ -25,7 +25,7 @@ use Rattle.ct_core.specs.Stands.{CoreState, Stands}
 -- ---- machines whose sessions are the same, one by one
 
 pub itself : (n : ℕ) → (n == n) ≡ true
-itself n = search (tests, arith)
+itself n = eq-eqb n n refl
 
 share_as : (m other : Machine) → m.first ≡ other.first → m.past ≡ other.past → (pending : List Write) (own : Option Own) → IfSome own (IsShareOf m pending) → IfSome own (IsShareOf other pending)
 share_as m other first past pending None shares = tt

@@ -1,18 +1,23 @@
 -- What code asks with an environment that it made is what the world of the database answers.
-use Rattle.std.proofs.Common.{◌≡◌, ℕ, [], List, map, Ok, Err, ap, ◌∙◌, sym}
+use Rattle.std.proofs.Common.{◌≡◌, ℕ, [], List, map, Result, Ok, Err, ap, subst, ◌∙◌, sym}
 use Rattle.ct_types.specs.Answers.{Gives, ◌>>=◌}
 use Rattle.ct_types.specs.declared.bound.BoundExpr.{BoundExpr}
 use Rattle.ct_types.specs.declared.bound.BoundRowVersion.{BoundRowVersion}
+use Rattle.ct_types.specs.declared.bound.BoundWrite.{BoundWrite}
+use Rattle.ct_types.specs.declared.entry.Write.{Write}
 use Rattle.ct_types.specs.declared.refusal.Refusal.{Refusal}
 use Rattle.ct_types.specs.declared.tracked.VersionRow.{VersionRow}
 use Rattle.ct_types.specs.declared.value.Key.{Key}
 use Rattle.ct_types.specs.declared.value.Row.{Row}
 use Rattle.ct_types.specs.declared.value.Value.{Value}
+use Rattle.ct_model.specs.declared.db.Table.{Table}
+use Rattle.ct_model.specs.Tables.{catalogued}
 use Rattle.ct_model.specs.Net.{net}
 use Rattle.ct_model.specs.Versions.{row_version as last_version}
 use Rattle.ct_expr.specs.Environment.{Environment}
 use Rattle.ct_expr.specs.Meaning.{on, row_version, scene, value}
 use Rattle.ct_write.specs.Rows.{no_row}
+use Rattle.ct_write.specs.Writes.{writes_of}
 use Rattle.ct_machine.specs.Reads.{changes_rows, env_of, shown, shown_version, since_of, version_on, world_of}
 use Rattle.ct_state.specs.Seen.{Seen}
 
@@ -39,3 +44,8 @@ pub version_made : (seen : Seen) (env : Environment) (row : Row) (version : Boun
     → row_version (scene row env (last_version seen.db)) version ≡ Ok found → made ≡ shown_version found → version_on seen version row ≡ Ok made
 version_made seen env row version found made is gives shows =
     ap (λ answer. answer >>= (λ found. Ok (shown_version found))) (ap (λ e. row_version (scene row e (last_version seen.db)) version) (sym is) ∙ gives) ∙ ap (λ row. Ok row) (sym shows)
+
+pub writes_given : (seen : Seen) (env : Environment) (table : Table) (write : BoundWrite) (result : Result (List Write) Refusal) → env ≡ env_of seen
+    → Gives (writes_of (record { env = env; versions = last_version seen.db }) (catalogued table) write table.rows) result → Gives (writes_of (world_of seen) (catalogued table) write table.rows) result
+writes_given seen env table write result is gives =
+    subst (λ (it : Environment). Gives (writes_of (record { env = it; versions = last_version seen.db }) (catalogued table) write table.rows) result) is gives

@@ -7,10 +7,10 @@ ghost use Rattle.ct_state.specs.Seen.{takes_view as takes_a_view};
 ghost use Rattle.ct_machine.specs.Step.{entry_of, has_room as has_room_for, most_number};
 ghost use Rattle.ct_core.specs.Settling.{takes_view_of};
 
-use crate::asks::asks_versions;
 use crate::decide::{decide_command, waiting};
 use crate::reads::env;
 use crate::writing::is_open;
+use ct_asks::asks_versions;
 use ct_database::Database;
 use ct_machine::{Decision, draws_version, has_number};
 use ct_sessions::Sessions;
@@ -146,11 +146,9 @@ impl<D> Core<D> {
     ghost use Rattle.ct_types.specs.declared.command.Command.TheVariants.{Sql};
     ghost use Rattle.ct_types.specs.declared.stmt.Stmt.TheVariants as stmt;
     ghost use Rattle.ct_machine.specs.Decide.{decide as decided};
-    ghost use Rattle.ct_machine.specs.Fits.{RowsFit};
     ghost use Rattle.ct_state.specs.Machine.{opening, with_session};
     ghost use Rattle.ct_machine.specs.Play.{Follows, after};
     ghost use Rattle.ct_state.specs.Replies.{is_memory};
-    ghost use Rattle.ct_state.specs.Seen.{seen_by};
     ghost use Rattle.ct_sessions.specs.Owns.{IsReady, MayView, own_or};
     ghost use Rattle.ct_sessions.specs.Seats.{own_in, state_in};
     ghost use Rattle.ct_core.specs.Range.{CommitIsKept, DecisionIsKept, WaitIsKept};
@@ -235,8 +233,8 @@ impl<D> Core<D> {
         }
         let after = number_after(self.next, true, drawn);
         self.sessions.pend(session, writes, self.next)?;
-        self.view(session, what);
         self.next = after;
+        self.view(session, what);
         Ok(reply)
     }
 
@@ -355,7 +353,6 @@ impl<D> Core<D> {
         requires { IsReady self.now.sessions session }
         ensures is { IfOk result (λ made. (m : Machine) → Stands self.entry.now m → made ≡ decided m session what.now) }
         ensures kept { IfOk result (DecisionIsKept self.entry.now.db (own_or self.entry.now.db (own_in self.entry.now.sessions.seats session)) (state_in self.entry.now.sessions.seats session)) }
-        ensures fits { OnOk result ((m : Machine) → Stands self.entry.now m → RowsFit (seen_by m (m.sessions session)) what.now) }
     {
         let none = Variables(List::new(alloc));
         let db = self.sessions.seen(session, &self.db);
@@ -385,7 +382,6 @@ impl<D> Core<D> {
     /// A statement that reads or writes what its session sees.
     fn step(&mut self, alloc: Global, session: u8, what: &Command) -> Result<Reply, Memory>
         ensures ok { IfOk result (λ reply. (m : Machine) → Stands self.old m → IsTaken m session what.now reply self.new) }
-        ensures fits { OnOk result ((m : Machine) → Stands self.old m → RowsFit (seen_by m (m.sessions session)) what.now) }
         ensures disk { self.new.disk ≡ self.old.disk }
         ensures err { OnErr result (StaysFor self.old self.new) }
     {
@@ -437,7 +433,6 @@ impl<D> Core<D> {
         requires { what.now ≡ Sql statement.now }
         ensures ok { IfOk result (λ reply. (m : Machine) → Stands self.old m → IsTaken m session what.now reply self.new) }
         ensures rolls_back { what.now ≡ Sql stmt.Rollback → IsOkAnd result (λ reply. is_memory reply ≡ false) }
-        ensures fits { OnOk result ((m : Machine) → Stands self.old m → RowsFit (seen_by m (m.sessions session)) what.now) }
         ensures disk { self.new.disk ≡ self.old.disk }
         ensures err { OnErr result (StaysFor self.old self.new) }
     {
@@ -451,7 +446,6 @@ impl<D> Core<D> {
     fn try_event(&mut self, alloc: Global, session: u8, what: &Command) -> Result<Reply, Memory>
         ensures ok { IfOk result (λ reply. (m : Machine) → Stands self.old m → IsTaken m session what.now reply self.new) }
         ensures rolls_back { what.now ≡ Sql stmt.Rollback → IsOkAnd result (λ reply. is_memory reply ≡ false) }
-        ensures fits { OnOk result ((m : Machine) → Stands self.old m → RowsFit (seen_by m (m.sessions session)) what.now) }
         ensures disk { self.new.disk ≡ self.old.disk }
         ensures err { OnErr result (StaysFor self.old self.new) }
     {
@@ -475,13 +469,10 @@ impl<D> Core<D> {
     /// it ends; `Duplicate` for an INSERT of a key that is there; `Exhausted` where no version or no transaction number is left, each at most 2^62. Want of memory is `Refused`
     /// with `Memory`; it may come at any event but ROLLBACK (`rolls_back`), and leaves the database and each session as it was. The order of the
     /// refusals is this project's own.
-    ///
-    /// The rows that the statement writes fit their table (`fits`); want of memory writes none.
     pub fn event(&mut self, alloc: Global, session: u8, what: &Command) -> Reply
         ensures follows { (m : Machine) → Stands self.old m → Follows m session what.now result }
         ensures rolls_back { what.now ≡ Sql stmt.Rollback → is_memory result ≡ false }
         ensures stands { (m : Machine) → Stands self.old m → Stands self.new (after m session what.now result) }
-        ensures fits { (m : Machine) → Stands self.old m → is_memory result ≡ false → RowsFit (seen_by m (m.sessions session)) what.now }
         ensures disk { self.new.disk ≡ self.old.disk }
     {
         match self.try_event(alloc, session, what) {

@@ -1,4 +1,4 @@
-ghost use Rattle.std.specs.Prelude.{◌≡◌, not, Ok, None, IfOk, OnOk, MatchOption};
+ghost use Rattle.std.specs.Prelude.{◌≡◌, not, Ok, None, IfOk, MatchOption};
 ghost use Rattle.std.specs.Option.{option_and_then, option_copied};
 ghost use Rattle.ct_types.specs.Answers.{Gives, demand};
 ghost use Rattle.ct_types.specs.declared.entry.Act.TheVariants.{Commit};
@@ -10,7 +10,6 @@ ghost use Rattle.ct_bind_kind_laws.specs.Storing.{StoresWell};
 ghost use Rattle.ct_model.specs.declared.db.Db.{Db};
 ghost use Rattle.ct_model.specs.Tables.{table_of};
 ghost use Rattle.ct_machine.specs.Decide as spec;
-ghost use Rattle.ct_machine.specs.Fits.{AnswerFits, RowsFit};
 ghost use Rattle.ct_state.specs.Holding.{blocked_table as table_blocked};
 ghost use Rattle.ct_state.specs.Machine.{Machine};
 ghost use Rattle.ct_machine.specs.Reads.{catalogue as catalogue_of, selected as selected_in};
@@ -163,7 +162,6 @@ fn decide_bound(
     requires suits { Suits (state_in sessions.now.seats number).tran env.now.variables.0 statement.now bound }
     ensures is { IfOk result (λ made. (m : Machine) → Sees sessions.now number db.now env.now m → made ≡ spec.decide_bound m number statement.now bound) }
     ensures kept { (newest : Db) → Reaches newest db.now (state_in sessions.now.seats number) → IfOk result (DecisionIsKept newest db.now (state_in sessions.now.seats number)) }
-    ensures fits { OnOk result (AnswerFits (seen_with db.now env.now) (Ok bound)) }
 {
     match bound {
         Bound::AcceptOption | Bound::SetLockTimeout => Ok(Decision::Answers(Reply::Done)),
@@ -248,7 +246,6 @@ fn decide_sentence(
     requires may { spec.allowed (state_in sessions.now.seats number).tran statement.now ≡ Ok tt }
     ensures is { IfOk result (λ made. (m : Machine) → Sees sessions.now number db.now env.now m → made ≡ spec.once_bound m number statement.now (bound_of (seen_with db.now env.now) statement.now)) }
     ensures kept { (newest : Db) → Reaches newest db.now (state_in sessions.now.seats number) → IfOk result (DecisionIsKept newest db.now (state_in sessions.now.seats number)) }
-    ensures fits { OnOk result (AnswerFits (seen_with db.now env.now) (bound_of (seen_with db.now env.now) statement.now)) }
 {
     match bound(alloc, db, env, sessions.tran(number), statement) {
         Ok(bound) => decide_bound(alloc, sessions, number, db, env, statement, bound),
@@ -311,7 +308,6 @@ fn decide_allowed(
     requires variables { env.now.variables.0 ≡ (state_in sessions.now.seats number).variables }
     ensures is { IfOk result (λ made. (m : Machine) → Sees sessions.now number db.now env.now m → made ≡ spec.once_allowed m number statement.now (spec.allowed (state_in sessions.now.seats number).tran statement.now)) }
     ensures kept { (newest : Db) → Reaches newest db.now (state_in sessions.now.seats number) → IfOk result (DecisionIsKept newest db.now (state_in sessions.now.seats number)) }
-    ensures fits { OnOk result (AnswerFits (seen_with db.now env.now) (bound_of (seen_with db.now env.now) statement.now)) }
 {
     match allowed(sessions.tran(number), statement) {
         Ok(()) => decide_sentence(alloc, sessions, number, db, env, statement),
@@ -334,7 +330,6 @@ pub(crate) fn decide_command(
     requires variables { env.now.variables.0 ≡ (state_in sessions.now.seats number).variables }
     ensures is { IfOk result (λ made. (m : Machine) → Sees sessions.now number db.now env.now m → made ≡ spec.decide m number what.now) }
     ensures kept { (newest : Db) → Reaches newest db.now (state_in sessions.now.seats number) → IfOk result (DecisionIsKept newest db.now (state_in sessions.now.seats number)) }
-    ensures fits { OnOk result (RowsFit (seen_with db.now env.now) what.now) }
 {
     match what {
         Command::Wrong(refusal) => Ok(Decision::Refuses(refusal.copy(alloc)?)),

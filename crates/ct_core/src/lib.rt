@@ -1,7 +1,6 @@
 //! The core of the server: the newest database with the machine's bookkeeping, behind one call for each event.
 #![tactic(auto)]
 
-mod asks;
 mod assign;
 mod changes;
 mod core_state;

@@ -1,12 +1,10 @@
-ghost use Rattle.std.specs.Prelude.{◌≡◌, false, Ok, Some, IfOk, IfSome, OnOk, slice_get};
+ghost use Rattle.std.specs.Prelude.{◌≡◌, false, Ok, Some, IfOk, IfSome, slice_get};
 ghost use Rattle.std.specs.List.{AllByRecursion};
 ghost use Rattle.ct_types.specs.Answers.{Gives};
 ghost use Rattle.ct_model.specs.Tables.{catalogued as catalogued_table, table_of};
 ghost use Rattle.ct_write.specs.Duplicates.{duplicate};
-ghost use Rattle.ct_write.specs.Fitting.{IsFit};
 ghost use Rattle.ct_write.specs.Writes.{NamesIds, SparesKey, writes_of};
 ghost use Rattle.ct_machine.specs.Decide as spec;
-ghost use Rattle.ct_machine.specs.Fits.{FitsOn, WriteFits};
 ghost use Rattle.ct_machine.specs.Reads.{world_of};
 ghost use Rattle.ct_state.specs.Machine.{Machine};
 ghost use Rattle.ct_model.specs.declared.db.Db.{Db};
@@ -130,7 +128,6 @@ fn writes_on(
     requires ids { NamesIds write.now.change }
     requires spares { SparesKey table.now.schema write.now.change }
     ensures gives { Gives (writes_of (world_of (seen_with db.now env.now)) (catalogued_table table.now) write.now table.now.rows) result }
-    ensures fit { IfOk result (λ made. AllByRecursion (λ one. IsFit table.now.schema.columns one.row) made) }
     ensures keyed { IfOk result (λ made. AllByRecursion (λ one. IfSome one.row (IsRowOf table.now.schema one.key)) made) }
 {
     writes(alloc, write, table, env, &LastVersions { db })
@@ -151,7 +148,6 @@ fn write_to(
     requires there { table_of db.now.tables write.now.table ≡ Some table.now }
     ensures is { IfOk result (λ made. (m : Machine) → Sees sessions.now number db.now env.now m → made ≡ spec.written m number write.now (Some table.now)) }
     ensures kept { (newest : Db) → Reaches newest db.now (state_in sessions.now.seats number) → IfOk result (DecisionIsKept newest db.now (state_in sessions.now.seats number)) }
-    ensures fits { OnOk result (FitsOn (seen_with db.now env.now) write.now table.now) }
 {
     match writes_on(alloc, db, env, write, table) {
         Ok(writes) => fitted(alloc, sessions, number, table, writes),
@@ -173,7 +169,6 @@ fn decide_write(
     requires spares { IfSome (table_of db.now.tables write.now.table) (λ table. SparesKey table.schema write.now.change) }
     ensures is { IfOk result (λ made. (m : Machine) → Sees sessions.now number db.now env.now m → made ≡ spec.written m number write.now (table_of db.now.tables write.now.table)) }
     ensures kept { (newest : Db) → Reaches newest db.now (state_in sessions.now.seats number) → IfOk result (DecisionIsKept newest db.now (state_in sessions.now.seats number)) }
-    ensures fits { OnOk result (WriteFits (seen_with db.now env.now) write.now) }
 {
     match db.table(write.table) {
         None => Ok(Decision::Answers(Reply::Count(0))),
@@ -195,7 +190,6 @@ pub(crate) fn write_once(
     requires spares { IfSome (table_of db.now.tables write.table) (λ table. SparesKey table.schema write.change) }
     ensures is { IfOk result (λ made. (m : Machine) → Sees sessions.now number db.now env.now m → made ≡ spec.written m number write (table_of db.now.tables write.table)) }
     ensures kept { (newest : Db) → Reaches newest db.now (state_in sessions.now.seats number) → IfOk result (DecisionIsKept newest db.now (state_in sessions.now.seats number)) }
-    ensures fits { OnOk result (WriteFits (seen_with db.now env.now) write) }
 {
     decide_write(alloc, sessions, number, db, env, &write)
 }

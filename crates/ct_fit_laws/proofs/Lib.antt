@@ -1,4 +1,2 @@
 pub mod Rows
 pub mod Variables
-pub mod Keeping
-pub mod Meaning

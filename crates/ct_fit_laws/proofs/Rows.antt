@@ -18,12 +18,10 @@ use Rattle.ct_model.specs.Schemas.{AllHold, RowFits}
 use Rattle.ct_model.specs.Valid.{IsTableValid}
 use Rattle.ct_model.proofs.Members.{all_weaken}
 use Rattle.ct_machine.specs.Reads.{catalogue, world_of}
-use Rattle.ct_state.specs.Seen.{seen_by}
-use Rattle.ct_machine_laws.proofs.Seeing.{seen_is_valid}
 use Rattle.ct_value_laws.specs.Values.{IsRepresentable, AreRepresentable, HaveRepresentable}
 use Rattle.ct_value_laws.proofs.Binding.{bound_kept}
 use Rattle.ct_value_laws.proofs.Writing.{writes_fit}
-use Rattle.ct_fit_laws.specs.Laws.{SoundRowsFit}
+use Rattle.ct_fit_laws.specs.Laws.{ValidRowsFit}
 
 -- ---- what a table holds is representable
 
@@ -54,14 +52,13 @@ row_values [] (v ∷ values) held = absurd held
 row_values (column ∷ columns) [] held = absurd held
 row_values (column ∷ columns) (v ∷ values) held = (column_value column v held.0, row_values columns values held.1)
 
-pub table_rows : (schema : Schema) (rows : List Row) → AllByRecursion (RowFits schema) rows → HaveRepresentable rows
+table_rows : (schema : Schema) (rows : List Row) → AllByRecursion (RowFits schema) rows → HaveRepresentable rows
 table_rows schema rows fit = all_weaken (RowFits schema) (λ (row : Row). AreRepresentable row.0) (λ row held. row_values schema.columns row.0 held) rows fit
 
-pub sound_rows_fit : SoundRowsFit
-sound_rows_fit m s (Sql statement) sound held texts =
-    let seen = seen_by m (m.sessions s) in
-    let valid = seen_is_valid m s sound in
-    λ write came table was writes wrote.
-    writes_fit (world_of seen) table write writes (held s) ((bound_kept (world_of seen) (held s) (catalogue seen.db) seen.variables seen.db.keep statement texts).holds (Writes write) came)
+-- ---- what is written there fits
+
+pub valid_rows_fit : ValidRowsFit
+valid_rows_fit seen (Sql statement) valid held texts = λ write came table was writes wrote.
+    writes_fit (world_of seen) table write writes held ((bound_kept (world_of seen) held (catalogue seen.db) seen.variables seen.db.keep statement texts).holds (Writes write) came)
     (table_rows table.schema table.rows (all_found (IsTableValid seen.db.version seen.db.keep) _ seen.db.tables table valid.tables was).rows) wrote
-sound_rows_fit m s what sound held texts = tt
+valid_rows_fit seen what valid held texts = tt

@@ -1,5 +1,6 @@
 -- The command of a text.
 use Rattle.std.proofs.Common.{◌≡◌, ◌≢◌, ◌⊎◌, ℕ, inl, inr, List, Result, Ok, Err, refl, sym, ap, subst, ◌∙◌}
+use Rattle.std.specs.Str.{IsUtf8}
 use Rattle.ct_types.specs.declared.refusal.Refusal.{Refusal}
 use Rattle.ct_types.specs.declared.refusal.Refusal.TheVariants.{Syntax, Memory}
 use Rattle.ct_types.specs.declared.stmt.Stmt.{Stmt}
@@ -9,8 +10,7 @@ use Rattle.ct_parser.specs.Exact.{Parsed}
 use Rattle.ct_parser.proofs.OneAnswer.{answers_once}
 use Rattle.ct_types.specs.declared.command.Command.{Command}
 use Rattle.ct_types.specs.declared.command.Command.TheVariants.{Sql, Wrong}
-use Rattle.ct_machine_laws.specs.Keeping.{IsSpelledCommand}
-use Rattle.ct_machine_laws.proofs.Statements.{parsed_are_spelled}
+use Rattle.ct_run.specs.Meant.{IsMeant}
 use Rattle.ct_run.specs.Schedule.{IsAnswered, Means}
 
 -- the parser's refusal, where it is not want of memory
@@ -19,11 +19,10 @@ means_refused text Memory other told = absurd (other refl)
 means_refused text (Syntax at) other told = inr told
 means_refused text refusal other told = told
 
--- the command of a text is one that the grammar gives
-pub means_spelled : (text : List ℕ) (what : Command) → Means text what → IsSpelledCommand what
-means_spelled text (Sql tree) (tokens, cut, parsed) = parsed_are_spelled text tokens tree cut parsed
-means_spelled text (Wrong refusal) means = tt
-means_spelled text other means = absurd means
+-- what a text of code points is, is meant by one
+pub means_meant : (text : List ℕ) (what : Command) → IsUtf8 text → Means text what → IsMeant what
+means_meant text (Sql tree) utf8 (tokens, cut, parsed) = record { text = text; tokens = tokens; code_points = utf8; cut = cut; parsed = parsed }
+means_meant text other utf8 means = tt
 
 -- the parser's answer that a command stands for, and the command of an answer
 answer_of : Command → Result Stmt Refusal

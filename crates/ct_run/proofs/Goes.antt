@@ -1,30 +1,25 @@
 -- How a play goes on, from one statement and one phase to the next.
-use Rattle.std.proofs.Common.{◌≡◌, ℕ, ◌+◌, ◌<◌, false, List, [], ◌∷◌, ◌++◌, length, get_or, take, refl, sym, ap, subst, ◌∙◌, append-nil, arith}
+use Rattle.std.proofs.Common.{◌≡◌, ℕ, ◌+◌, ◌<◌, ◌≤◌, false, List, [], ◌∷◌, ◌++◌, length, get_or, take, refl, sym, ap, subst, ◌∙◌, append-nil, arith}
 use Rattle.std.specs.List.{flat_map}
 use Rattle.std.proofs.lemmas.Grind.{common_steps, flat_map-append}
-use Rattle.std.proofs.lemmas.List.{take_more}
+use Rattle.std.proofs.lemmas.List.{take_all, take_more}
 use Rattle.ct_model.specs.Apply.{no_db}
-use Rattle.ct_model_laws.proofs.InTurn.{no_db_valid}
 use Rattle.ct_core.specs.Stands.{CoreState, Stands}
 use Rattle.ct_types.specs.declared.command.Journaled.{Journaled}
+use Rattle.ct_types.proofs.Lists.{all_append}
 use Rattle.ct_state.specs.Machine.{Machine, opening}
 use Rattle.ct_machine.specs.Play.{Follows, IsPlay, end_of}
-use Rattle.ct_state.specs.Replies.{is_memory}
 use Rattle.ct_machine.specs.Play as play
-use Rattle.ct_machine_laws.specs.Sound.{IsSound, StaySound}
-use Rattle.ct_machine.specs.Fits.{RowsFit}
-use Rattle.ct_state.specs.Seen.{seen_by}
-use Rattle.ct_machine_laws.proofs.Soundness.{opens_sound}
 use Rattle.ct_script.specs.declared.script.Lane.{Lane}
 use Rattle.ct_script.specs.declared.script.Phase.{Phase}
 use Rattle.ct_script.specs.declared.script.Script.{Script}
 use Rattle.ct_print.specs.Growing.{Growing, nothing, with_block, with_journal, with_phase, grown}
 use Rattle.ct_print.proofs.Grows.{grown_push}
-use Rattle.ct_machine_laws.proofs.Keeping.{keeps_sound}
+use Rattle.ct_run.specs.Meant.{IsMeant, AreMeant}
 use Rattle.ct_run.specs.Schedule.{Numbered, numbered_from, numbered_in_lane, numbered_in, IsOf, IsInOrder, AreInOrder}
 use Rattle.ct_run.specs.Steps.{Goes, HasRun}
 use Rattle.ct_run.specs.Top.{all_of}
-use Rattle.ct_run.proofs.Commands.{means_spelled}
+use Rattle.ct_run.proofs.Soundness.{meant_plays_stay_sound}
 
 -- ---- plays and journals, one behind the other
 
@@ -36,14 +31,8 @@ end_of-append : (m : Machine) (journal more : List Journaled) → end_of m (jour
 end_of-append m [] more = refl
 end_of-append m (one ∷ journal) more = end_of-append (play.after m one.session one.what one.reply) journal more
 
-StaySound-append : (m : Machine) (journal more : List Journaled) → StaySound m journal → StaySound (end_of m journal) more → StaySound m (journal ++ more)
-StaySound-append m [] more here there = there
-StaySound-append m (one ∷ journal) more here there = (here.0, StaySound-append (play.after m one.session one.what one.reply) journal more here.1 there)
-
--- the machine at the end is one of them
-end_sound : (m : Machine) (journal : List Journaled) → StaySound m journal → IsSound (end_of m journal)
-end_sound m [] stay = stay
-end_sound m (one ∷ journal) stay = end_sound (play.after m one.session one.what one.reply) journal stay.1
+AreMeant-append : (journal more : List Journaled) → AreMeant journal → AreMeant more → AreMeant (journal ++ more)
+AreMeant-append journal more here there = all_append _ journal more here there
 
 IsInOrder-append : (statements others : List Numbered) (journal more : List Journaled) → IsInOrder statements journal → IsInOrder others more → IsInOrder (statements ++ others) (journal ++ more)
 IsInOrder-append [] others [] more here there = there
@@ -107,18 +96,17 @@ with_journal-append it (one ∷ journal) more = with_journal-append (with_block 
 
 module _ {D : Type 0} where
   pub goes_none : (made : Growing) (core : CoreState D) → Goes [] made made core core
-  goes_none made core = record { own = []; added = refl; in_order = tt; plays = λ m stands. (tt, stands); sound = λ m stands sound. sound }
+  goes_none made core = record { own = []; added = refl; in_order = tt; plays = λ m stands. (tt, stands); meant = tt }
 
-  goes_one : (statement : Numbered) (old new : Growing) (one : Journaled) (before after : CoreState D) → new ≡ with_block old one → IsOf statement one → one.session < 256
+  goes_one : (statement : Numbered) (old new : Growing) (one : Journaled) (before after : CoreState D) → new ≡ with_block old one → IsOf statement one → one.session < 256 → IsMeant one.what
       → ((m : Machine) → Stands before m → Follows m one.session one.what one.reply) → ((m : Machine) → Stands before m → Stands after (play.after m one.session one.what one.reply))
-      → ((m : Machine) → Stands before m → is_memory one.reply ≡ false → RowsFit (seen_by m (m.sessions one.session)) one.what)
       → Goes (statement ∷ []) old new before after
-  goes_one statement old new one before after added is byte follows stands fits = record {
+  goes_one statement old new one before after added is byte meant follows stands = record {
     own = one ∷ [];
     added = added;
     in_order = (is, tt);
     plays = λ m s. ((follows m s, tt), stands m s);
-    sound = λ m s sound. (sound, keeps_sound m one.session one.what one.reply sound byte (means_spelled statement.text one.what is.means) (fits m s));
+    meant = ((byte, meant), tt);
   }
 
   pub goes_on : (statements others : List Numbered) (old mid new : Growing) (before between after : CoreState D)
@@ -131,23 +119,19 @@ module _ {D : Type 0} where
         let first = here.plays m s in
         let second = there.plays (end_of m here.own) first.1 in
         (IsPlay-append m here.own there.own first.0 second.0, subst (Stands after) (sym (end_of-append m here.own there.own)) second.1);
-    sound = λ m s sound.
-        let first = here.plays m s in
-        let stay = here.sound m s sound in
-        StaySound-append m here.own there.own stay (there.sound (end_of m here.own) first.1 (end_sound m here.own stay));
+    meant = AreMeant-append here.own there.own here.meant there.meant;
   }
 
   -- a lane goes on by one statement
   pub goes_statement : (lane : Lane) (i : ℕ) (text : List ℕ) (old mid new : Growing) (one : Journaled) (before between after : CoreState D)
       → i < length lane.statements → text ≡ get_or lane.statements i text
       → Goes (numbered_from lane.session lane.first (take i lane.statements)) old mid before between
-      → new ≡ with_block mid one → IsOf (record { session = lane.session; number = lane.first + i; text = text }) one → one.session < 256
+      → new ≡ with_block mid one → IsOf (record { session = lane.session; number = lane.first + i; text = text }) one → one.session < 256 → IsMeant one.what
       → ((m : Machine) → Stands between m → Follows m one.session one.what one.reply) → ((m : Machine) → Stands between m → Stands after (play.after m one.session one.what one.reply))
-      → ((m : Machine) → Stands between m → is_memory one.reply ≡ false → RowsFit (seen_by m (m.sessions one.session)) one.what)
       → Goes (numbered_from lane.session lane.first (take (i + 1) lane.statements)) old new before after
-  goes_statement lane i text old mid new one before between after inside is goes added of byte follows stands fits =
+  goes_statement lane i text old mid new one before between after inside is goes added of byte meant follows stands =
       subst (λ statements. Goes statements old new before after) (sym (numbered_more lane i text inside is))
-      (goes_on _ _ old mid new before between after goes (goes_one _ mid new one between after added of byte follows stands fits))
+      (goes_on _ _ old mid new before between after goes (goes_one _ mid new one between after added of byte meant follows stands))
 
   -- a phase goes on by one lane
   pub goes_lane : (lanes : List Lane) (i : ℕ) (lane : Lane) (old mid new : Growing) (before between after : CoreState D)
@@ -164,11 +148,11 @@ module _ {D : Type 0} where
     pub is_grown : made ≡ grown journals
     pub in_order : AreInOrder phases journals
     pub is_play : IsPlay (opening no_db) (all_of journals)
-    pub sound : StaySound (opening no_db) (all_of journals)
+    pub meant : AreMeant (all_of journals)
     pub stands : Stands core (end_of (opening no_db) (all_of journals))
 
   pub played_none : (core : CoreState D) → Stands core (opening no_db) → HasPlayed [] nothing core
-  played_none core stands = record { journals = []; is_grown = refl; in_order = tt; is_play = tt; sound = opens_sound no_db no_db_valid; stands = stands }
+  played_none core stands = record { journals = []; is_grown = refl; in_order = tt; is_play = tt; meant = tt; stands = stands }
 
   played_push : (phases : List Phase) (phase : Phase) (made new : Growing) (between after : CoreState D)
       → HasPlayed phases made between → Goes (numbered_in phase) (with_phase made) new between after → HasPlayed (phases ++ phase ∷ []) new after
@@ -177,14 +161,13 @@ module _ {D : Type 0} where
       let journal = goes.own in
       let m : Machine = end_of (opening no_db) (all_of journals) in
       let plays = goes.plays m played.stands in
-      let stay = goes.sound m played.stands (end_sound (opening no_db) (all_of journals) played.sound) in
       let whole = all_of-push journals journal in
       record {
         journals = journals ++ journal ∷ [];
         is_grown = goes.added ∙ ap (λ it. with_journal (with_phase it) journal) played.is_grown ∙ grown_push journals journal;
         in_order = AreInOrder-push phases phase journals journal played.in_order goes.in_order;
         is_play = subst (IsPlay (opening no_db)) (sym whole) (IsPlay-append (opening no_db) (all_of journals) journal played.is_play plays.0);
-        sound = subst (StaySound (opening no_db)) (sym whole) (StaySound-append (opening no_db) (all_of journals) journal played.sound stay);
+        meant = subst AreMeant (sym whole) (AreMeant-append (all_of journals) journal played.meant goes.meant);
         stands = subst (λ j. Stands after (end_of (opening no_db) j)) (sym whole) (subst (Stands after) (sym (end_of-append (opening no_db) (all_of journals) journal)) plays.1);
       }
 
@@ -196,5 +179,9 @@ module _ {D : Type 0} where
       subst (λ ps. HasPlayed ps new after) (sym more) (played_push (take i phases) phase made new between after played goes)
 
   -- the transcript of all phases is that of a run of the script
-  pub has_run : (script : Script) (made : Growing) (core : CoreState D) → HasPlayed script.phases made core → HasRun script made
-  has_run script made core played = (played.journals, record { in_order = played.in_order; is_play = played.is_play }, played.sound, played.is_grown)
+  has_run : (script : Script) (made : Growing) (core : CoreState D) → HasPlayed script.phases made core → HasRun script made
+  has_run script made core played = (played.journals, record { in_order = played.in_order; is_play = played.is_play }, meant_plays_stay_sound (all_of played.journals) played.meant, played.is_grown)
+
+  -- so it is once the phases so far are all
+  pub has_run_whole : (script : Script) (i : ℕ) (made : Growing) (core : CoreState D) → length script.phases ≤ i → HasPlayed (take i script.phases) made core → HasRun script made
+  has_run_whole script i made core over played = has_run script made core (subst (λ phases. HasPlayed phases made core) (take_all i script.phases over) played)

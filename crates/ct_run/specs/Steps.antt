@@ -4,23 +4,23 @@ use Rattle.std.specs.Io.KnownBytes.{Keeps}
 use Rattle.ct_types.specs.declared.command.Journaled.{Journaled}
 use Rattle.ct_state.specs.Machine.{Machine}
 use Rattle.ct_machine.specs.Play.{IsPlay, end_of}
-use Rattle.ct_machine_laws.specs.Sound.{IsSound, StaySound}
 use Rattle.ct_core.specs.Stands.{CoreState, Stands}
 use Rattle.ct_print.specs.Growing.{Growing, with_journal, grown}
 use Rattle.ct_script.specs.declared.script.Script.{Script}
+use Rattle.ct_run.specs.Meant.{AreMeant}
 use Rattle.ct_run.specs.Schedule.{Numbered, IsInOrder}
 use Rattle.ct_run.specs.Top.{IsRunOf, IsSoundThroughout, SinkChange, PlaysScript}
 use Rattle.ct_run.specs.declared.status.Status.{Status}
 use Rattle.ct_run.specs.declared.status.Status.TheVariants.{Memory}
 
 -- the transcript got a block for each of these statements, in their order, each reply follows, and the core stands for the machine
--- after them; a machine that was sound stays so
+-- after them; the statements are what texts of code points mean
 pub record Goes {D : Type 0} (statements : List Numbered) (old new : Growing) (before after : CoreState D) : Type 0 where
   pub own : List Journaled
   pub added : new ≡ with_journal old own
   pub in_order : IsInOrder statements own
   pub plays : (m : Machine) → Stands before m → IsPlay m own × Stands after (end_of m own)
-  pub sound : (m : Machine) → Stands before m → IsSound m → StaySound m own
+  pub meant : AreMeant own
 
 -- a run of the script, which is sound throughout, has this transcript
 abbrev pub HasRun : Script → Growing → Type 0

@@ -1,4 +1,5 @@
 ghost use Rattle.std.specs.Prelude.{◌<◌, ◌^◌, ℕ, List as Listed, Err, IfOk, length};
+ghost use Rattle.std.specs.Str.{IsUtf8};
 ghost use Rattle.ct_run.specs.Schedule.{IsAnswered, Means};
 
 use ct_lexer::{LexError, tokens};
@@ -17,10 +18,12 @@ fn refused(refusal: Refusal) -> Result<Command, Memory>
     }
 }
 
-/// The command that a statement's text is: its tree, or the refusal of a text that is no sentence.
+/// The command that a statement's text is: its tree, or the refusal of a text that is no sentence. The text is one of
+/// code points.
 pub(crate) fn command_of(alloc: Global, text: &Text) -> Result<Command, Memory>
     requires { length text.now < 2 ^ 32 }
-    ensures { IfOk result (Means text.now) }
+    ensures means { IfOk result (Means text.now) }
+    ensures utf8 { IsUtf8 text.now }
 {
     match tokens(alloc, text.as_str()) {
         Err(LexError::Memory) => Err(Memory),

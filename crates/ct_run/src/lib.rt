@@ -9,6 +9,9 @@ mod status;
 mod top;
 
 pub use gate::{Gate, NoGate};
-pub use laws::{completes, one_command, one_run, one_transcript};
+pub use laws::{
+    completes, keeps_sound_alone, meant_are_read, meant_plays_keep_valid, one_command, one_run,
+    one_transcript, read_plays_keep_valid, sound_rows_fit,
+};
 pub use status::Status;
 pub use top::{Done, run_top};

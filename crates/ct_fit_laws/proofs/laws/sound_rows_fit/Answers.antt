@@ -1,5 +1,0 @@
-use Rattle.ct_fit_laws.proofs.Rows
-use Rattle.ct_fit_laws.proofs.laws.sound_rows_fit.Goals as goal
-
-pub returns : goal.returns
-returns c = Rows.sound_rows_fit
