@@ -1,7 +1,7 @@
 #!/bin/sh
 # The same statements in `ct run` and in the sqlite3 shell in memory, whose triggers record each change into a side table: N INSERTs, N UPDATEs by key and
 # N/3 DELETEs by key, in scattered order, each statement a transaction of its own. Then how the time of a query of net changes and of the join of a table with
-# them grows with the table, and the memory by row. Each figure is the least of several runs, side by side in one run; ratios stand beside them.
+# them grows with the table, how that of such a query grows with the commits of another table, and the memory by row. Each figure is the least of several runs, side by side in one run; ratios stand beside them.
 # It proves the program first (or takes what earlier runs kept), and measures what LLVM built; or it measures the program that CT_PROGRAM names.
 set -e
 top=$(cd "$(dirname "$0")/.." && pwd)
@@ -105,6 +105,25 @@ QUERIES = [
 for name, query, bar in QUERIES:
     small, large = (query_micros("query", rows, query, 20_000) for rows in (2_000, 20_000))
     print(f"{name}: {small:.1f} us at 2,000 rows, {large:.1f} at 20,000: {large / small:.2f} times (bar {bar})")
+
+
+def beside_micros(others, times):
+    """The microseconds of a query of ten changes of a table of 2,000 rows, which came spread among so many commits of another table."""
+    second = [one.replace(" t ", " u ") for one in CT_START[1:]]
+    before = inserts(2_000) + second
+    elsewhere = [one.replace(" t ", " u ") for one in inserts(others)]
+    for at, key in enumerate(scattered(2_000, 6007)[:10]):
+        before += elsewhere[at * others // 10 : (at + 1) * others // 10] + [f"UPDATE t SET a = 1 WHERE id = {key}"]
+    # each ENABLE and each INSERT draws a version
+    query = "SELECT ct.id, ct.SYS_CHANGE_OPERATION FROM CHANGETABLE(CHANGES t, 2002) AS ct"
+    without = seconds(CT, ct_file("beside", before))
+    whole = seconds(CT, ct_file("beside", before + [query] * times))
+    return max(whole - without, 1e-9) * 1e6 / times
+
+
+alone, beside = beside_micros(0, 5_000), beside_micros(20_000, 5_000)
+print(f"CHANGES with 10 changes: {alone:.1f} us without commits of another table since, {beside:.1f} among 20,000: {beside / alone:.2f} times")
+
 
 def whole_join_millis(rows, times):
     """The milliseconds of a join of a table of so many rows with the changes of all of them, from the table's side."""

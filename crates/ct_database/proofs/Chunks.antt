@@ -119,7 +119,7 @@ module _ {Z : Type 0} where
 
   -- ---- one more chunk
 
-  all_below : (sealed : List (Pair (Arc (List Kept) Z))) (chunk : List Kept) (last : Kept) → AreAtLasts sealed → EndsWith last chunk → Rise (commits_of sealed ++ chunk) → AllBelow (version_key last.version) sealed
+  pub all_below : (sealed : List (Pair (Arc (List Kept) Z))) (chunk : List Kept) (last : Kept) → AreAtLasts sealed → EndsWith last chunk → Rise (commits_of sealed ++ chunk) → AllBelow (version_key last.version) sealed
   all_below [] chunk last keyed ends rising = tt
   all_below (pair ∷ sealed) chunk last keyed ends rising =
       let rises : Rise (pair.value.value ++ (commits_of sealed ++ chunk)) = subst Rise (append_assoc pair.value.value (commits_of sealed) chunk) rising in
@@ -130,7 +130,7 @@ module _ {Z : Type 0} where
         all_below sealed chunk last keyed.1 ends (rise_back pair.value.value (commits_of sealed ++ chunk) rises),
       )
 
-  put_last : (sealed : List (Pair (Arc (List Kept) Z))) (chunk : List Kept) (key : Key) (it : Arc (List Kept) Z) → AreAtLasts sealed → EndsAt key chunk → Rise (commits_of sealed ++ chunk)
+  pub put_last : (sealed : List (Pair (Arc (List Kept) Z))) (chunk : List Kept) (key : Key) (it : Arc (List Kept) Z) → AreAtLasts sealed → EndsAt key chunk → Rise (commits_of sealed ++ chunk)
       → set_pair sealed key it ≡ sealed ++ record { key = key; value = it } ∷ []
   put_last sealed chunk key it keyed at rising =
       let low : AllBelow key sealed = subst (λ (k : Key). AllBelow k sealed) (sym at.2) (all_below sealed chunk at.0 keyed at.1 rising) in

@@ -1,4 +1,5 @@
 pub mod Backwards
+pub mod ByTable
 pub mod Chunks
 pub mod Counted
 pub mod LaterChanges
@@ -7,6 +8,7 @@ pub mod Listing
 pub mod Notes
 pub mod Needs
 pub mod Numbered
+pub mod OwnCommits
 pub mod Placed
 pub mod Pointers
 pub mod Rising

@@ -46,11 +46,13 @@ all_unneeded tables commits last ends rising none =
 
 -- ---- the first chunk
 
-without_first : {V : Type 0} (key : Key) (first : Pair V) (rest : List (Pair V)) → first.key ≡ key → Ascends (first ∷ rest) → without (first ∷ rest) key ≡ rest
+pub without_head : {V : Type 0} (key : Key) (first : Pair V) (rest : List (Pair V)) → key_cmp first.key key ≡ Equal → AllAbove key rest → without (first ∷ rest) key ≡ rest
+without_head key first rest at high = rw (at, lows_of_high key rest high, highs_of_high key rest high) refl
+
+pub without_first : {V : Type 0} (key : Key) (first : Pair V) (rest : List (Pair V)) → first.key ≡ key → Ascends (first ∷ rest) → without (first ∷ rest) key ≡ rest
 without_first key first rest is rising =
     let at : key_cmp first.key key ≡ Equal = ap (key_cmp first.key) (sym is) ∙ tied_itself key_cmp_total first.key in
-    let high : AllAbove key rest = above_rest key first rest rising (inr at) in
-    rw (at, lows_of_high key rest high, highs_of_high key rest high) refl
+    without_head key first rest at (above_rest key first rest rising (inr at))
 
 module _ {Z : Type 0} where
   pub taken_keyed : (tables : List Table) (made : Pair (Arc (List Kept) Z)) (sealed : List (Pair (Arc (List Kept) Z))) → Ascends sealed → BeginsUnneeded tables sealed made → AreAtLasts sealed

@@ -1,6 +1,6 @@
 -- What the parts of a database in memory keep, and the steps of its code. No promise speaks of them.
 use Rattle.std.specs.Prelude.{◌≡◌, ℕ, ◌^◌, ◌<◌, ◌≤◌, pos, ◌-ℤ◌, Bool, false, nat_lt, ◌==◌, ◌&&◌, List, [], ◌∷◌, ◌++◌, length, map, filter, flat_map, Option, None, Some, if◌then◌else◌}
-use Rattle.std.specs.List.{AllByRecursion}
+use Rattle.std.specs.List.{AllByRecursion, list_any}
 use Rattle.std.specs.Ordering.{is_eq}
 use Rattle.std.specs.declared.sync.Arc.{Arc}
 use Rattle.ct_types.specs.Order.{key_cmp}
@@ -19,7 +19,8 @@ use Rattle.ct_model.specs.Net.{changes_above, last_of, window}
 use Rattle.ct_model.specs.Tables.{catalogued}
 use Rattle.ct_model.specs.Valid.{AreNumbered}
 use Rattle.ct_ptree.specs.declared.pair.Pair.{Pair}
-use Rattle.ct_ptree.specs.Pairs.{value_at}
+use Rattle.ct_ptree.specs.Pairs.{value_at, set_pair, without}
+use Rattle.ct_database.specs.Commits.{has_change_of}
 
 -- the catalogue is that of the tables, whose ids count from 1
 pub record AreListed (catalogue : List Catalogued) (tables : List Table) : Type 0 where
@@ -117,6 +118,47 @@ module _ {Z : Type 0} where
   abbrev pub BeginsUnneeded : List Table → List (Pair (Arc (List Kept) Z)) → Pair (Arc (List Kept) Z) → Type 0
   BeginsUnneeded tables [] made = ⊥
   BeginsUnneeded tables (first ∷ rest) made = (first.key ≡ made.key) × (first.value.value ≡ made.value.value) × AreUnneeded tables first.value.value
+
+-- ---- the chunks of a table
+
+-- the key of a table: its id
+unfoldable pub table_key : ℕ → Key
+table_key table = record { 0 = Int (pos table) ∷ [] }
+
+-- whether a chunk has a change of a table
+abbrev pub is_on : ℕ → Pair (List Kept) → Bool
+is_on table chunk = list_any (has_change_of table) chunk.value
+
+-- the commits of chunks with their keys, one chunk after the other
+abbrev pub commits_in : List (Pair (List Kept)) → List Kept
+commits_in = flat_map (λ (chunk : Pair (List Kept)). chunk.value)
+
+-- each of these chunks stands at the key of its last version
+abbrev pub StandAtLasts : List (Pair (List Kept)) → Type 0
+StandAtLasts = AllByRecursion (λ (chunk : Pair (List Kept)). EndsAt chunk.key chunk.value)
+
+module _ {Z : Type 0} where
+  -- the chunks behind pointers, with their keys
+  abbrev pub chunks_of : List (Pair (Arc (List Kept) Z)) → List (Pair (List Kept))
+  chunks_of = map (λ (pair : Pair (Arc (List Kept) Z)). record { key = pair.key; value = pair.value.value })
+
+  -- the same, if there are some
+  abbrev pub found_chunks : Option (List (Pair (Arc (List Kept) Z))) → List (Pair (List Kept))
+  found_chunks None = []
+  found_chunks (Some chunks) = chunks_of chunks
+
+  -- the chunks that stand at the id of a table
+  abbrev pub chunks_on : ℕ → List (Pair (List (Pair (Arc (List Kept) Z)))) → List (Pair (List Kept))
+  chunks_on table by_table = found_chunks (value_at by_table (table_key table))
+
+  -- at the id of each table stand the chunks that have a change of it, in their order
+  abbrev pub AreByTable : List (Pair (Arc (List Kept) Z)) → List (Pair (List (Pair (Arc (List Kept) Z)))) → Type 0
+  AreByTable sealed by_table = (table : ℕ) → chunks_on table by_table ≡ filter (is_on table) (chunks_of sealed)
+
+  -- chunks with this one at a key, or with none at it
+  abbrev pub with_chunk : Option (Arc (List Kept) Z) → Key → List (Pair (List Kept)) → List (Pair (List Kept))
+  with_chunk None key chunks = without chunks key
+  with_chunk (Some it) key chunks = set_pair chunks key it.value
 
 -- ---- the last change of a key
 

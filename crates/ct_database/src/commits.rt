@@ -106,17 +106,18 @@ impl Commits {
         })
     }
 
-    /// The commits above a version, lent. It costs those above it, and at most a chunk more.
-    pub(crate) fn since(&self, version: u64) -> Result<List<&Kept>, Memory>
-        ensures { IfOk result (λ made. lent made ≡ filter (is_later version) self.now.commits) }
+    /// Commits above a version, lent, whose changes of a table are those of all of them. It costs those of the chunks that have a
+    /// change of the table and end at or above the version, and at most a chunk more.
+    pub(crate) fn since_on(&self, table: u32, version: u64) -> Result<List<&Kept>, Memory>
+        ensures { IfOk result (λ made. changes_above table version (lent made) ≡ changes_above table version self.now.commits) }
     {
-        let mut made = self.older.since(version)?;
+        let mut made = self.older.since_on(table, version)?;
         push_since(&mut made, &self.newest, version)?;
         Ok(made)
     }
 
     /// The version and the context of the last change of a key among the commits above a version. It is a look-up where notes are
-    /// made, and else a walk over those commits. It copies the context.
+    /// made, and else a walk over those of these commits that stand in chunks with a change of the table. It copies the context.
     pub(crate) fn last(
         &self,
         alloc: Global,

@@ -144,7 +144,8 @@ fn looked_up_last(
     }
 }
 
-/// The row of the last change of a key above a version: a look-up where notes are made, and else a walk.
+/// The row of the last change of a key above a version: a look-up where notes are made, and else a walk over the commits in
+/// chunks with a change of the table.
 pub(crate) fn older_last(
     alloc: Global,
     older: &Older,
@@ -157,7 +158,7 @@ pub(crate) fn older_last(
     ensures { IfOk result (λ made. made ≡ version_row_of (last_in table key.now (filter (is_later floor) older.now))) }
 {
     match lasts {
-        None => walked_last(alloc, table, key, older.since(floor)?.as_slice()),
+        None => walked_last(alloc, table, key, older.since_on(table, floor)?.as_slice()),
         Some(lasts) => looked_up_last(alloc, older, lasts, table, floor, key),
     }
 }

@@ -2,6 +2,7 @@
 #![tactic(auto)]
 
 mod acts;
+mod by_table;
 mod changing;
 mod chunk;
 mod commits;
@@ -24,4 +25,4 @@ mod writes;
 
 pub use committed::Committed;
 pub use database::Database;
-pub use laws::applying_is_storable;
+pub use laws::{applying_is_storable, changes_of_own_commits};

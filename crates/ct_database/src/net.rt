@@ -18,8 +18,7 @@ fn floor(min: u64, since: Option<i64>) -> u64
     }
 }
 
-/// The net rows of a table, if it is tracked, in the cost of the changes since the version.
-#[tactic(auto, using(crate::proofs::LaterChanges::later_changes))]
+/// The net rows of a table, if it is tracked, in the cost of the commits since the version in chunks with a change of the table.
 fn tracked_since(
     alloc: Global,
     table: &Stored,
@@ -32,7 +31,7 @@ fn tracked_since(
         None => Ok(List::new(alloc)),
         Some(tracked) => {
             let floor = floor(tracked.min, since);
-            let later = kept.since(floor)?;
+            let later = kept.since_on(table.schema().id, floor)?;
             net_of_kept(
                 alloc,
                 table.schema(),

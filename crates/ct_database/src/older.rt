@@ -3,13 +3,14 @@ ghost use Rattle.std.specs.List.{find};
 ghost use Rattle.std.specs.Option.{option_copied};
 ghost use Rattle.ct_model.specs.Apply.{trim};
 ghost use Rattle.ct_source.specs.Rows.{lent};
-ghost use Rattle.ct_database.specs.Commits.{committed};
+ghost use Rattle.ct_database.specs.Commits.{committed, commits_on};
 ghost use Rattle.ct_database.specs.Steps.{AreNewest, AreNoted, AreUnneeded, Rise, gone_of, is_later, is_version};
 
+use crate::by_table::later_on;
 use crate::chunk::Chunk;
 use crate::committed::Committed;
 use crate::noted::{note_all, notes_of};
-use crate::sealed::{later, older_at, seal, take_unneeded};
+use crate::sealed::{older_at, seal, take_unneeded};
 use crate::told::{told, told_recent};
 use ct_ptree::Tree;
 use ct_source::Stored;
@@ -21,24 +22,26 @@ use std::sync::Arc;
 /// Commits by strictly rising version, which contracts see as their list.
 ///
 /// Those of full chunks stand in a tree, each chunk at the key of its last version; the recent ones, at most a chunk, behind them.
-/// So a commit costs a pointer, and one in as many as a chunk has costs a change of the tree.
+/// So a commit costs a pointer, and one in as many as a chunk has costs a change of the tree, and one of each table that the
+/// chunk changes: the chunks with a change of a table stand once more at the id of the table.
 #[derive(Drop)]
 pub(crate) struct Older {
     alloc: Global,
     sealed: Tree<Arc<Chunk>>,
+    by_table: Tree<Tree<Arc<Chunk>>>,
     recent: Chunk,
 }
 
 impl Model for Older {
     ghost use Rattle.std.specs.Prelude.{List};
     ghost use Rattle.ct_types.specs.declared.entry.Kept.{Kept};
-    ghost use Rattle.ct_database.specs.Steps.{AreAtLasts, Rise, older_of};
+    ghost use Rattle.ct_database.specs.Steps.{AreAtLasts, AreByTable, Rise, older_of};
 
     ghost Value = { List Kept };
 
     ghost view = { λ it. older_of it.sealed it.recent };
 
-    ghost invariant = { λ it. AreAtLasts it.sealed × Rise (older_of it.sealed it.recent) };
+    ghost invariant = { λ it. AreAtLasts it.sealed × AreByTable it.sealed it.by_table × Rise (older_of it.sealed it.recent) };
 }
 
 impl Older {
@@ -49,6 +52,7 @@ impl Older {
         Older {
             alloc,
             sealed: Tree::new(alloc),
+            by_table: Tree::new(alloc),
             recent: Chunk::new(alloc),
         }
     }
@@ -61,6 +65,7 @@ impl Older {
         Ok(Older {
             alloc: self.alloc,
             sealed: self.sealed.share()?,
+            by_table: self.by_table.share()?,
             recent: self.recent.share(self.alloc)?,
         })
     }
@@ -72,11 +77,12 @@ impl Older {
         let _ = &self.sealed;
     }
 
-    /// The commits above a version, lent. It costs those of the chunks that end at or above it.
-    pub(crate) fn since(&self, version: u64) -> Result<List<&Kept>, Memory>
-        ensures { IfOk result (λ made. lent made ≡ filter (is_later version) self.now) }
+    /// Commits above a version, lent: all that have a change of a table, and maybe others. It costs those of the chunks that have
+    /// a change of the table and end at or above the version, and at most a chunk more.
+    pub(crate) fn since_on(&self, table: u32, version: u64) -> Result<List<&Kept>, Memory>
+        ensures { IfOk result (λ made. commits_on table (lent made) ≡ commits_on table (filter (is_later version) self.now)) }
     {
-        let mut made = later(self.alloc, &self.sealed, version)?;
+        let mut made = later_on(self.alloc, &self.by_table, table, version)?;
         self.recent.push_later(&mut made, version)?;
         Ok(made)
     }
@@ -124,7 +130,12 @@ impl Older {
     pub(crate) fn seal(&mut self) -> Result<(), Memory>
         ensures { self.new ≡ self.old }
     {
-        seal(self.alloc, &mut self.sealed, &mut self.recent)
+        seal(
+            self.alloc,
+            &mut self.sealed,
+            &mut self.by_table,
+            &mut self.recent,
+        )
     }
 
     /// Takes the first chunk out, if no tracked table needs a commit of it. Want of memory leaves the commits as they were.
@@ -133,6 +144,6 @@ impl Older {
         ensures unneeded { IfOk result (λ gone. AreUnneeded tables.now (gone_of gone)) }
         ensures err { OnErr result (self.new ≡ self.old) }
     {
-        take_unneeded(self.alloc, &mut self.sealed, tables)
+        take_unneeded(self.alloc, &mut self.sealed, &mut self.by_table, tables)
     }
 }

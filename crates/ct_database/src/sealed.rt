@@ -3,8 +3,9 @@ ghost use Rattle.std.specs.List.{find};
 ghost use Rattle.std.specs.Option.{IfSome, option_copied};
 ghost use Rattle.ct_ptree.specs.Pairs.{Ascends};
 ghost use Rattle.ct_source.specs.Rows.{lent};
-ghost use Rattle.ct_database.specs.Steps.{AreAtLasts, AreUnneeded, BeginsUnneeded, EndsAt, Rise, commits_of, gone_of, is_later, is_version, older_of};
+ghost use Rattle.ct_database.specs.Steps.{AreAtLasts, AreByTable, AreUnneeded, BeginsUnneeded, EndsAt, Rise, commits_of, gone_of, is_later, is_version, older_of};
 
+use crate::by_table::with_commits;
 use crate::chunk::Chunk;
 use crate::needed::is_needed;
 use crate::version::version_key;
@@ -61,22 +62,28 @@ fn last_key(alloc: Global, recent: &Chunk) -> Result<Option<Key>, Memory>
     }
 }
 
-/// Makes a chunk of the recent commits, if there are some. Want of memory leaves both as they were.
+/// Makes a chunk of the recent commits, if there are some, and puts it to those of the tables that it changes. Want of memory
+/// leaves all as it was.
 pub(crate) fn seal(
     alloc: Global,
     sealed: &mut Tree<Arc<Chunk>>,
+    by_table: &mut Tree<Tree<Arc<Chunk>>>,
     recent: &mut Chunk,
 ) -> Result<(), Memory>
     requires keyed { AreAtLasts sealed.old }
+    requires listed { AreByTable sealed.old by_table.old }
     requires rising { Rise (older_of sealed.old recent.old) }
     ensures keyed { AreAtLasts sealed.new }
+    ensures listed { AreByTable sealed.new by_table.new }
     ensures same { older_of sealed.new recent.new ≡ older_of sealed.old recent.old }
 {
     match last_key(alloc, recent)? {
         None => Ok(()),
         Some(key) => {
             let chunk = Arc::new(alloc, recent.share(alloc)?)?;
+            let own = with_commits(alloc, by_table, recent, &key, Some(&chunk))?;
             sealed.put(key, chunk)?;
+            *by_table = own;
             recent.clear();
             Ok(())
         }
@@ -120,15 +127,19 @@ fn first_unneeded(
     }
 }
 
-/// Takes the first chunk out, if no tracked table needs a commit of it. Want of memory leaves the chunks as they were.
+/// Takes the first chunk out, if no tracked table needs a commit of it, also of those of the tables that it changes. Want of
+/// memory leaves the chunks as they were.
 pub(crate) fn take_unneeded(
     alloc: Global,
     sealed: &mut Tree<Arc<Chunk>>,
+    by_table: &mut Tree<Tree<Arc<Chunk>>>,
     tables: &[Stored],
 ) -> Result<Option<Arc<Chunk>>, Memory>
     requires keyed { AreAtLasts sealed.old }
+    requires listed { AreByTable sealed.old by_table.old }
     requires rising { Rise (commits_of sealed.old) }
     ensures keyed { AreAtLasts sealed.new }
+    ensures listed { AreByTable sealed.new by_table.new }
     ensures parts { IfOk result (λ gone. commits_of sealed.old ≡ gone_of gone ++ commits_of sealed.new) }
     ensures unneeded { IfOk result (λ gone. AreUnneeded tables.now (gone_of gone)) }
     ensures err { OnErr result (commits_of sealed.new ≡ commits_of sealed.old) }
@@ -136,7 +147,9 @@ pub(crate) fn take_unneeded(
     match first_unneeded(alloc, sealed, tables)? {
         None => Ok(None),
         Some(first) => {
+            let own = with_commits(alloc, by_table, &first.value, &first.key, None)?;
             sealed.take(&first.key)?;
+            *by_table = own;
             Ok(Some(first.value))
         }
     }

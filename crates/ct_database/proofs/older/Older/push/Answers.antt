@@ -11,6 +11,7 @@ invariant_of-self-2 c =
     let one = c.args.one.now.value in
     let above : AreNewest (older_of c.self.inside.sealed c.self.inside.recent) (c.args.one.now.value ∷ []) = subst (λ (older : List Kept). AreNewest older (c.args.one.now.value ∷ [])) (sym c.self.view_is) c.requires in (
       c.self.invariant.0,
-      after_change (λ (recent : List Kept). Rise (older_of c.self.inside.sealed recent)) c.push.result inside.recent (inside.recent ++ c.in_ok-try_clone.field-0.value ∷ []) c.push.new.self c.self.invariant.1
-          (rise_behind (commits_of c.self.inside.sealed) inside.recent one c.in_ok-try_clone.field-0.value c.self.invariant.1 above c.in_ok-try_clone.ensures) c.push.ensures.ok c.push.ensures.err,
+      c.self.invariant.1,
+      after_change (λ (recent : List Kept). Rise (older_of c.self.inside.sealed recent)) c.push.result inside.recent (inside.recent ++ c.in_ok-try_clone.field-0.value ∷ []) c.push.new.self c.self.invariant.2
+          (rise_behind (commits_of c.self.inside.sealed) inside.recent one c.in_ok-try_clone.field-0.value c.self.invariant.2 above c.in_ok-try_clone.ensures) c.push.ensures.ok c.push.ensures.err,
     )
