@@ -1,3 +1,4 @@
 pub mod OneColumn
 pub mod PairsByKey
+pub mod RowsAdded
 pub mod Sorted

@@ -4,6 +4,7 @@
 mod cells;
 mod index;
 mod lending;
+mod plain;
 mod source;
 mod stored;
 
