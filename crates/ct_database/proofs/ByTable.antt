@@ -1,7 +1,7 @@
 -- The chunks of each table: what stands at its id, as chunks are put and taken, and the commits that they have.
-use Rattle.std.proofs.Common.{◌≡◌, ℕ, ◌<◌, pos, Bool, true, false, cond, ◌==◌, inr, List, [], ◌∷◌, ◌++◌, map, filter, Option, None, Some, Ordering, Less, Equal, Greater, int_cmp, if◌then◌else◌, refl, sym, ap, ap₂, ◌∙◌, subst, append_assoc, append-nil, eqb-true, arith}
+use Rattle.std.proofs.Common.{◌≡◌, ℕ, ◌<◌, pos, Bool, true, false, cond, ◌==◌, inr, List, [], ◌∷◌, ◌++◌, map, filter, Option, Some, Ordering, Less, Equal, Greater, int_cmp, if◌then◌else◌, refl, sym, ap, ap₂, ◌∙◌, subst, append-nil, eqb-true, arith}
 use Rattle.std.specs.List.{AllByRecursion, list_any}
-use Rattle.std.specs.Ordering.{is_eq, is_gt, ordering_then}
+use Rattle.std.specs.Ordering.{is_eq, ordering_then}
 use Rattle.std.specs.declared.sync.Arc.{Arc}
 use Rattle.std.proofs.lemmas.Bool.Decides.{nat_tests}
 use Rattle.std.proofs.lemmas.Cmp.{tied_itself}
@@ -17,7 +17,7 @@ use Rattle.ct_model.specs.declared.db.Table.{Table}
 use Rattle.ct_model.proofs.Members.{all_filter, all_map}
 use Rattle.ct_ptree.specs.declared.pair.Pair.{Pair}
 use Rattle.ct_ptree.specs.Pairs.{Ascends, AllAbove, AllBelow, is_above, is_below, set_pair, value_at, without}
-use Rattle.ct_ptree.proofs.Around.{lows_of_low, highs_of_low, lows_of_high, highs_of_high}
+use Rattle.ct_ptree.proofs.Around.{lows_of_low, highs_of_low}
 use Rattle.ct_ptree.proofs.Rising.{above_rest}
 use Rattle.ct_database.specs.Commits.{has_change_of, commits_on}
 use Rattle.ct_database.specs.Steps.{AreAtLasts, AreByTable, BeginsUnneeded, EndsAt, Rise, StandAtLasts, chunks_of, chunks_on, commits_in, commits_of, found_chunks, is_later, is_on, older_of, table_key, with_chunk}
@@ -148,11 +148,10 @@ all_on P p (chunk ∷ chunks) all =
 -- commits rise with others behind them that hold no more
 rise_fewer : (front back fewer : List Kept) → ((P : Kept → Type 0) → AllByRecursion P back → AllByRecursion P fewer) → Rise fewer → Rise (front ++ back) → Rise (front ++ fewer)
 rise_fewer [] back fewer less rises rising = rises
-rise_fewer (one ∷ front) back fewer less rises rising =
-    (
-      all_append (λ (later : Kept). one.version < later.version) front fewer (all_front (λ (later : Kept). one.version < later.version) front back rising.0) (less (λ (later : Kept). one.version < later.version) (all_back (λ (later : Kept). one.version < later.version) front back rising.0)),
-      rise_fewer front back fewer less rises rising.1,
-    )
+rise_fewer (one ∷ front) back fewer less rises rising = (
+  all_append (λ (later : Kept). one.version < later.version) front fewer (all_front (λ (later : Kept). one.version < later.version) front back rising.0) (less (λ (later : Kept). one.version < later.version) (all_back (λ (later : Kept). one.version < later.version) front back rising.0)),
+  rise_fewer front back fewer less rises rising.1,
+)
 
 rise_on : (p : Pair (List Kept) → Bool) (chunks : List (Pair (List Kept))) → Rise (commits_in chunks) → Rise (commits_in (filter p chunks))
 rise_on p [] rising = rising

@@ -15,4 +15,5 @@ pub mod Rising
 pub mod Storing
 pub mod Swept
 pub mod Trimmed
+pub mod ValidStored
 pub mod RowsPut

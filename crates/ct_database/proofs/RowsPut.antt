@@ -13,7 +13,7 @@ use Rattle.ct_model.specs.declared.db.Table.{Table}
 use Rattle.ct_model.specs.Apply.{tables_after, trim, written}
 use Rattle.ct_model.specs.Tables.{catalogued, is_above, table_of}
 use Rattle.ct_database.specs.Storable.{IsRowStorable, IsWriteStorable}
-use Rattle.ct_database.specs.Waiting.{AreStoredIn, IsStoredIn}
+use Rattle.ct_database.specs.Waiting.{AreStoredIn}
 use Rattle.ct_database.proofs.Listing.{catalogue_all_written}
 use Rattle.ct_database.proofs.Numbered.{written_schema}
 

@@ -27,7 +27,7 @@ use Rattle.ct_database.proofs.Numbered.{written_schema, found_back}
 
 -- ---- rows
 
-same_count : (columns : List Column) (values : List Value) → AllHold columns values → length values ≡ length columns
+pub same_count : (columns : List Column) (values : List Value) → AllHold columns values → length values ≡ length columns
 same_count [] [] hold = refl
 same_count [] (value ∷ values) hold = absurd hold
 same_count (column ∷ columns) [] hold = absurd hold
@@ -61,7 +61,7 @@ there : {X : Type 0} (P : X → Type 0) (xs : List X) (i : ℕ) (found : Option 
 there P xs i None e is = absurd is
 there P xs i (Some x) e is = slice_get_within xs i x e
 
-key_of_columns : (columns : List Column) (ids : List ℕ) → IsKey columns ids → AllByRecursion (λ id. (1 ≤ id) × (id ≤ length columns)) ids
+pub key_of_columns : (columns : List Column) (ids : List ℕ) → IsKey columns ids → AllByRecursion (λ id. (1 ≤ id) × (id ≤ length columns)) ids
 key_of_columns columns [] key = absurd key
 key_of_columns columns (id ∷ []) key = let inside : id - 1 < length columns = there IsKeyColumn columns (id - 1) (slice_get columns (id - 1)) refl key.1 in ((key.0, omega (arith, key.0)), tt)
 key_of_columns columns (id ∷ other ∷ more) key = absurd key

@@ -22,7 +22,7 @@ pub fails_too : (wide narrow : Bool) → (narrow ≡ true → wide ≡ true) →
 fails_too wide true weaker e = absurd (let bad : false ≡ true = e ∙ weaker refl in cc)
 fails_too wide false weaker e = refl
 
-filter_narrower : {X : Type 0} (wide narrow : X → Bool) → ((x : X) → narrow x ≡ true → wide x ≡ true) → (xs : List X) → filter narrow (filter wide xs) ≡ filter narrow xs
+pub filter_narrower : {X : Type 0} (wide narrow : X → Bool) → ((x : X) → narrow x ≡ true → wide x ≡ true) → (xs : List X) → filter narrow (filter wide xs) ≡ filter narrow xs
 filter_narrower wide narrow weaker [] = refl
 filter_narrower wide narrow weaker (x ∷ xs) =
     let more : filter narrow (filter wide xs) ≡ filter narrow xs = filter_narrower wide narrow weaker xs in

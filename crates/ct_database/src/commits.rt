@@ -106,6 +106,15 @@ impl Commits {
         })
     }
 
+    /// The commits above a version, lent. It costs those above it, and at most a chunk more.
+    pub(crate) fn since(&self, version: u64) -> Result<List<&Kept>, Memory>
+        ensures { IfOk result (λ made. lent made ≡ filter (is_later version) self.now.commits) }
+    {
+        let mut made = self.older.since(version)?;
+        push_since(&mut made, &self.newest, version)?;
+        Ok(made)
+    }
+
     /// Commits above a version, lent, whose changes of a table are those of all of them. It costs those of the chunks that have a
     /// change of the table and end at or above the version, and at most a chunk more.
     pub(crate) fn since_on(&self, table: u32, version: u64) -> Result<List<&Kept>, Memory>

@@ -3,6 +3,7 @@ ghost use Rattle.std.specs.Option.{option_copied};
 ghost use Rattle.ct_model.specs.Apply.{apply as applied, no_db};
 ghost use Rattle.ct_model.specs.Net.{net as net_changes};
 ghost use Rattle.ct_model.specs.Tables.{catalogued, table_of};
+ghost use Rattle.ct_model.specs.Valid.{IsValid};
 ghost use Rattle.ct_model.specs.Versions.{row_version as row_version_of};
 ghost use Rattle.ct_database.specs.Commits.{committed};
 ghost use Rattle.ct_database.specs.Storable.{IsStorable};
@@ -13,7 +14,9 @@ use crate::committed::Committed;
 use crate::fresh::commit_of;
 use crate::last::last_counted;
 use crate::net::net_since;
+use crate::plain::{commits_of, plain_commits, plain_tables, tables_of};
 use crate::tables::Tables;
+use ct_model::Db;
 use ct_source::Stored;
 use ct_types::{Catalogued, Entry, Keep, Key, List, Memory, NetRow, VersionRow};
 use std::alloc::Global;
@@ -61,6 +64,49 @@ impl Database {
             tables: Tables::new(alloc),
             kept: Commits::new(alloc),
         }
+    }
+
+    /// The database of a plain one, as a checkpoint gives it. It takes a logarithm of a table's rows for each row, and a step for each
+    /// commit; nothing of the plain one is copied but the keys of its rows. `Memory` is the only error.
+    pub fn of(alloc: Global, db: Db) -> Result<Database, Memory>
+        requires { IsValid db }
+        ensures { IfOk result (λ made. made ≡ db) }
+    {
+        let Db {
+            version,
+            time,
+            last_xdes,
+            keep,
+            tables,
+            kept,
+        } = db;
+        let tables = tables_of(alloc, tables)?;
+        let kept = commits_of(alloc, tables.as_slice(), kept)?;
+        Ok(Database {
+            alloc,
+            version,
+            time,
+            last_xdes,
+            keep,
+            tables,
+            kept,
+        })
+    }
+
+    /// The plain database, with a copy of each row and of each commit that counts. It costs all that is stored. `Memory` is the only
+    /// error.
+    pub fn to_db(&self, alloc: Global) -> Result<Db, Memory>
+        ensures { IfOk result (λ made. made ≡ self.now) }
+    {
+        let tables = self.tables.as_slice();
+        Ok(Db {
+            version: self.version,
+            time: self.time,
+            last_xdes: self.last_xdes,
+            keep: self.keep,
+            tables: plain_tables(alloc, tables)?,
+            kept: plain_commits(alloc, tables, &self.kept)?,
+        })
     }
 
     /// The version of the last committed transaction that drew one; 0 at first.

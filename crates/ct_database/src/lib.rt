@@ -16,6 +16,7 @@ mod needed;
 mod net;
 mod noted;
 mod older;
+mod plain;
 mod sealed;
 mod tables;
 mod told;

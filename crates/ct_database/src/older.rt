@@ -10,7 +10,7 @@ use crate::by_table::later_on;
 use crate::chunk::Chunk;
 use crate::committed::Committed;
 use crate::noted::{note_all, notes_of};
-use crate::sealed::{older_at, seal, take_unneeded};
+use crate::sealed::{later, older_at, seal, take_unneeded};
 use crate::told::{told, told_recent};
 use ct_ptree::Tree;
 use ct_source::Stored;
@@ -75,6 +75,15 @@ impl Older {
         ensures { Rise self.now }
     {
         let _ = &self.sealed;
+    }
+
+    /// The commits above a version, lent. It costs those of the chunks that end at or above it.
+    pub(crate) fn since(&self, version: u64) -> Result<List<&Kept>, Memory>
+        ensures { IfOk result (λ made. lent made ≡ filter (is_later version) self.now) }
+    {
+        let mut made = later(self.alloc, &self.sealed, version)?;
+        self.recent.push_later(&mut made, version)?;
+        Ok(made)
     }
 
     /// Commits above a version, lent: all that have a change of a table, and maybe others. It costs those of the chunks that have

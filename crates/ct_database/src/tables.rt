@@ -117,7 +117,7 @@ impl Tables {
     }
 
     /// Has these tables, whose ids count from 1, in place of its own. Want of memory leaves its own.
-    fn replace(&mut self, tables: Vec<Stored>) -> Result<(), Memory>
+    pub(crate) fn replace(&mut self, tables: Vec<Stored>) -> Result<(), Memory>
         requires { AreNumbered 1 tables.items }
         ensures ok { OnOk result (self.new ≡ tables.items) }
         ensures err { OnErr result (self.new ≡ self.old) }

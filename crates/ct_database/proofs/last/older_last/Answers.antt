@@ -1,4 +1,4 @@
-use Rattle.std.proofs.Common.{◌≡◌, IfOk, filter, sym, ap, ◌∙◌, subst}
+use Rattle.std.proofs.Common.{◌≡◌, IfOk, filter, ap, ◌∙◌, subst}
 use Rattle.ct_model.specs.Versions.{version_row_of}
 use Rattle.ct_source.specs.Rows.{lent}
 use Rattle.ct_database.specs.Steps.{is_later, last_in}

@@ -1,4 +1,4 @@
-use Rattle.std.proofs.Common.{◌≡◌, sym, ap, ◌∙◌, if◌then◌else◌, subst}
+use Rattle.std.proofs.Common.{sym, ap, ◌∙◌, if◌then◌else◌, subst}
 use Rattle.std.specs.List.{list_any}
 use Rattle.ct_ptree.specs.Pairs.{without}
 use Rattle.ct_database.specs.Commits.{has_change_of}

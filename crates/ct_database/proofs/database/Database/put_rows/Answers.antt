@@ -1,10 +1,7 @@
-use Rattle.std.proofs.Common.{List, map, fold, ap, ◌∙◌, sym, subst}
+use Rattle.std.proofs.Common.{List, map, fold, ap, ◌∙◌}
 use Rattle.std.proofs.lemmas.Result.{on_ok_weaker}
-use Rattle.std.specs.List.{AllByRecursion}
 use Rattle.ct_types.specs.declared.entry.Write.{Write}
-use Rattle.ct_model.specs.declared.db.Db.{Db}
 use Rattle.ct_model.specs.Apply.{written}
-use Rattle.ct_database.specs.Storable.{IsWriteStorable}
 use Rattle.ct_database.proofs.RowsPut.{rows_put}
 use Rattle.ct_database.proofs.database.Database.put_rows.Goals as goal
 

@@ -1,4 +1,4 @@
-use Rattle.std.proofs.Common.{◌≡◌, ◌++◌, filter, ap, ◌∙◌}
+use Rattle.std.proofs.Common.{◌++◌, filter, ap, ◌∙◌}
 use Rattle.ct_database.specs.Commits.{commits_on}
 use Rattle.ct_database.specs.Steps.{is_later}
 use Rattle.ct_database.proofs.ByTable.{stand_on, rises_on, own_later}
