@@ -6,3 +6,4 @@ pub mod Readies
 pub mod Replays
 pub mod Settles
 pub mod Standing
+pub mod Syncs

@@ -1,18 +1,18 @@
 -- A disk with two logs is written anew: what it stands for, at each moment.
-use Rattle.std.proofs.Common.{◌≡◌, ◌≢◌, inl, inr, ⊎_elim, ℕ, ◌-◌, ◌^◌, ◌<◌, ◌≤◌, cond, eqb, true, false, Bool, List, [], ◌∷◌, refl, sym, ◌∙◌, subst, arith}
+use Rattle.std.proofs.Common.{◌≡◌, ◌≢◌, inl, inr, ⊎_elim, ℕ, ◌-◌, ◌^◌, ◌<◌, ◌≤◌, cond, eqb, true, false, Bool, List, length, refl, sym, ◌∙◌, ap, subst, arith}
 use Rattle.std.proofs.lemmas.Bool.Decides.{nat_tests}
 use Rattle.ct_faults.specs.Disk.{Image, Runs, Same, LeavesOnly}
 use Rattle.ct_faults.proofs.Moments.{Runs-wider, Runs-more}
 use Rattle.ct_model.specs.declared.db.Db.{Db}
-use Rattle.ct_log.specs.Log.{IsLog}
 use Rattle.ct_pages.specs.declared.slot.Super.{Super}
 use Rattle.ct_pages.specs.Slots.{IsCanonical}
 use Rattle.ct_pages.proofs.Moves.{leaves_now}
 use Rattle.ct_found.specs.Checkpoint.{IsCheckpoint}
 use Rattle.ct_found.specs.Found.{Stands, StandsFor}
 use Rattle.ct_found.proofs.Stays.{makes_stays, written_stands}
-use Rattle.ct_recover.specs.Condensing.{next_slot, IsApart, IsCondensed, MayCondense}
-use Rattle.ct_recover.specs.Opening.{MayOpen}
+use Rattle.ct_recover.proofs.Settles.{empty_log}
+use Rattle.ct_recover.specs.Condensing.{next_slot, IsApart, IsCondensed, KeepsNamedBy, MayCondense}
+use Rattle.ct_recover.specs.Opening.{StaysFor}
 
 -- ---- the next slot
 
@@ -48,10 +48,15 @@ canonical_next slot size canonical some few fits =
       second = inl refl;
     }
 
--- ---- what it stands for
+-- with a checkpoint of all these bytes
+pub next_made : (slot next : Super) (bytes : List ℕ) (db : Db) → IsCanonical slot → slot.second ≢ 0 → next ≡ next_slot slot (length bytes) → IsCheckpoint bytes (length bytes) db → IsApart slot next × (next.second ≡ 0) × IsCheckpoint bytes next.length db
+next_made slot next bytes db canonical some is whole = (
+  subst (IsApart slot) (sym is) (apart_next slot (length bytes) canonical some),
+  ap (λ (s : Super). s.second) is,
+  subst (λ n. IsCheckpoint bytes n db) (sym (ap (λ (s : Super). s.length) is)) whole,
+)
 
-empty_log : (bytes : List ℕ) → bytes ≡ 0 ∷ [] → IsLog [] 1 bytes
-empty_log bytes is = record { gate = 0; ignored = []; split = is; closed = λ e. cc; fit = tt; used_is = omega arith }
+-- ---- what it stands for
 
 pub condensed_stands : (next : Super) (bytes : List ℕ) (image : Image) (db : Db) → 1 ≤ next.checkpoint → next.second ≡ 0 → IsCheckpoint bytes next.length db → IsCondensed next bytes image → Stands next image db 0 1
 condensed_stands next bytes image db some none is condensed =
@@ -64,19 +69,33 @@ may_stand slot next bytes content image db records used canonical stands some no
     (λ condensed. inr (next, 0, 1, condensed_stands next bytes image db some none is condensed))
     may.stage
 
-pub open_more : (db : Db) (old near image : Image) → MayOpen db old near → MayOpen db near image → MayOpen db old image
-open_more db old near image first second = ⊎_elim (λ same. subst (λ (i : Image). MayOpen db old i) (sym same) first) (λ stands. inr stands) second
-
 pub only_after : (before now : ℕ) (past images : ℕ → Image → Type 0) (old new : Image) → Runs before now past images Same → LeavesOnly old (past before) → new ≡ old → LeavesOnly new (images now)
 only_after before now past images old new run only stays image is = ⊎_elim
     (λ was. only image was ∙ sym stays)
     (λ from. from.2 ∙ only from.0 from.1 ∙ sym stays)
     (leaves_now before now past images Same image run is)
 
+-- what comes of calls that change nothing stands for what the disk stands for
+pub stands_still : (before now : ℕ) (past images : ℕ → Image → Type 0) (slot : Super) (content : Image) (db : Db) (records used : ℕ) → Stands slot content db records used → LeavesOnly content (past before) → Runs before now past images Same
+    → Runs before now past images (StaysFor db)
+stands_still before now past images slot content db records used stands only run = Runs-wider before now past images Same (StaysFor db) run
+    (λ old image was same. inr (slot, records, used, subst (λ (i : Image). Stands slot i db records used) (sym (same ∙ only old was)) stands))
+
 pub condense_opens : (before mid now : ℕ) (past between images : ℕ → Image → Type 0) (slot next : Super) (bytes : List ℕ) (content near : Image) (db : Db) (records used : ℕ) → IsCanonical slot → Stands slot content db records used → 1 ≤ next.checkpoint
-    → next.second ≡ 0 → IsCheckpoint bytes next.length db → near ≡ content → LeavesOnly near (between mid) → Runs before mid past between Same → Runs mid now between images (MayCondense slot next bytes) → Runs before now past images (MayOpen db)
-condense_opens before mid now past between images slot next bytes content near db records used canonical stands some none is stays only one two =
-    Runs-more before mid now past between images (MayOpen db) (Runs-wider before mid past between Same (MayOpen db) one (λ old image was same. inl same))
-    (Runs-wider mid now between images (MayCondense slot next bytes) (MayOpen db) two
-    (λ old image was may. inr (may_stand slot next bytes content image db records used canonical stands some none is (subst (λ (i : Image). MayCondense slot next bytes i image) (only old was ∙ stays) may))))
-    (open_more db)
+    → next.second ≡ 0 → IsCheckpoint bytes next.length db → near ≡ content → LeavesOnly content (past before) → Runs before mid past between Same → Runs mid now between images (MayCondense slot next bytes) → Runs before now past images (StaysFor db)
+condense_opens before mid now past between images slot next bytes content near db records used canonical stands some none is stays first one two =
+    let only = only_after before mid past between content near one first stays in
+    Runs-more before mid now past between images (StaysFor db) (stands_still before mid past between slot content db records used stands first one)
+    (Runs-wider mid now between images (MayCondense slot next bytes) (StaysFor db) two
+    (λ old image was may. may_stand slot next bytes content image db records used canonical stands some none is (subst (λ (i : Image). MayCondense slot next bytes i image) (only old was ∙ stays) may)))
+    (λ old near image one two. two)
+
+-- what reads give keeps the areas that the slot names
+pub keeps_content : (before now : ℕ) (past images : ℕ → Image → Type 0) (slot next : Super) (bytes : List ℕ) (content new : Image) → LeavesOnly content (past before) → Runs before now past images (MayCondense slot next bytes) → images now new → KeepsNamedBy slot content new
+keeps_content before now past images slot next bytes content new only run is = ⊎_elim
+    (λ was. still (only new was))
+    (λ from. subst (λ (i : Image). KeepsNamedBy slot i new) (only from.0 from.1) from.2.kept)
+    (leaves_now before now past images (MayCondense slot next bytes) new run is)
+  where
+    still : new ≡ content → KeepsNamedBy slot content new
+    still same = λ area named other. ap (λ (i : Image). i area) same

@@ -2,33 +2,37 @@
 use Rattle.std.proofs.Common.{◌≡◌, ◌≢◌, inl, inr, ⊎_elim, ℕ, Bool, true, false, cond, eqb, Err, refl, sym, ◌∙◌, ap, subst, arith}
 use Rattle.std.proofs.lemmas.Bool.Decides.{nat_tests}
 use Rattle.ct_faults.specs.Disk.{Image, Runs, Same, LeavesOnly}
-use Rattle.ct_faults.proofs.Moments.{Runs-wider, Runs-more}
+use Rattle.ct_faults.proofs.Moments.{Runs-more}
 use Rattle.ct_model.specs.declared.db.Db.{Db}
 use Rattle.ct_model.specs.Apply.{no_db}
 use Rattle.ct_log.specs.declared.fault.OpenFault.{OpenFault}
 use Rattle.ct_log.specs.declared.fault.OpenFault.TheVariants.{Foreign, DiskFault, Memory}
 use Rattle.ct_pages.specs.declared.slot.Super.{Super}
-use Rattle.ct_pages.specs.Fresh.{fresh_slot}
+use Rattle.ct_pages.specs.Fresh.{fresh_slot, IsFinished}
+use Rattle.ct_pages.specs.Slots.{Names}
+use Rattle.ct_pages.proofs.Decoding.{one_slot, unfinished_names_none}
 use Rattle.ct_found.specs.Found.{Makes, Stands, StandsFor, Finds}
 use Rattle.ct_found.specs.Foreign.{IsForeign}
 use Rattle.ct_found.proofs.Once.{stands_once, stands_so}
 use Rattle.ct_found.proofs.Faults.{standing_is_not_foreign}
 use Rattle.ct_recover.specs.Reading.{ReadsNamed}
-use Rattle.ct_recover.specs.Settling.{MaySettle, IsSettled}
+use Rattle.ct_recover.specs.Condensing.{KeepsNamedBy}
+use Rattle.ct_recover.specs.Settling.{MaySettle, RunsFromSync, IsSettled}
 use Rattle.ct_recover.specs.Volume.{IsSteady}
 use Rattle.ct_recover.proofs.Settles.{fresh_stands, settled_stands, settling_stands}
-use Rattle.ct_recover.specs.Opening.{MayOpen, Opens}
-use Rattle.ct_recover.proofs.Opens.{open_more}
+use Rattle.ct_recover.specs.Opening.{StaysFor, KeepsAreas, Opens}
+use Rattle.ct_recover.proofs.Syncs.{sync_more, sync_wider, sync_leaves}
 
-pub settle_opens : (before now : ℕ) (past images : ℕ → Image → Type 0) (content : Image) (db : Db) → StandsFor content db → Runs before now past images (MaySettle content) → Runs before now past images (MayOpen db)
-settle_opens before now past images content db stands run = Runs-wider before now past images (MaySettle content) (MayOpen db) run (λ old image was may. settling_stands content old image db stands may)
+-- what the settling may leave from its sync on stands for what the disk stood for
+pub settle_opens : (before now last : ℕ) (past images : ℕ → Image → Type 0) (content : Image) (db : Db) → StandsFor content db → RunsFromSync before now last past images (MaySettle content) → RunsFromSync before now last past images (λ image. StandsFor image db)
+settle_opens before now last past images content db stands run = sync_wider before now last past images (MaySettle content) (λ image. StandsFor image db) run (λ image may. settling_stands content image db stands may)
 
-pub opens_same : (before mid now : ℕ) (past between images : ℕ → Image → Type 0) (db : Db) → Runs before mid past between (MayOpen db) → Runs mid now between images Same → Runs before now past images (MayOpen db)
-opens_same before mid now past between images db one two =
-    Runs-more before mid now past between images (MayOpen db) one (Runs-wider mid now between images Same (MayOpen db) two (λ old image was same. inl same)) (open_more db)
-
-pub opens_more : (before mid now : ℕ) (past between images : ℕ → Image → Type 0) (db : Db) → Runs before mid past between (MayOpen db) → Runs mid now between images (MayOpen db) → Runs before now past images (MayOpen db)
-opens_more before mid now past between images db one two = Runs-more before mid now past between images (MayOpen db) one two (open_more db)
+-- and so does what a reading behind it leaves
+pub opens_same : (before mid now : ℕ) (past between images : ℕ → Image → Type 0) (content : Image) (db : Db) → StandsFor content db → RunsFromSync before mid mid past between (MaySettle content) → Runs mid now between images Same
+    → RunsFromSync before now now past images (λ image. StandsFor image db)
+opens_same before mid now past between images content db stands one two =
+    sync_more before mid now past between images (MaySettle content) (λ image. StandsFor image db) Same one two (λ image may. settling_stands content image db stands may)
+    (λ old image may same. settling_stands content image db stands (subst (MaySettle content) (sym same) may))
 
 by_slot : (slot : Super) (image : Image) (db : Db) → ((records : ℕ) × (used : ℕ) × Stands slot image db records used) → StandsFor image db
 by_slot slot image db it = inr (slot, it.0, it.1, it.2)
@@ -62,6 +66,14 @@ steady_of slot content images db records used stands only = record { records = r
 pub read_back : (old mid : Image) (slot : Super) (db : Db) (records used : ℕ) → IsSettled old mid slot → Makes slot mid db records used → StandsFor old db
 read_back old mid slot db records used settled makes = settled_back old mid slot db settled (inr (slot, records, used, record { names = settled.names; makes = makes }))
 
+-- what is left behind the reading, by calls that keep what was read standing
+pub opens_on : (before mid near now : ℕ) (past between reading images : ℕ → Image → Type 0) (old content : Image) (slot : Super) (db found : Db) (records used : ℕ) → IsSettled old content slot → Makes slot content found records used → StandsFor old db
+    → RunsFromSync before mid mid past between (MaySettle old) → Runs mid near between reading Same → Runs near now reading images (StaysFor found) → RunsFromSync before now now past images (λ image. StandsFor image db)
+opens_on before mid near now past between reading images old content slot db found records used settled makes stands one two three =
+    let is : found ≡ db = stands_once old found db (read_back old content slot found records used settled makes) stands in
+    sync_more before near now past reading images (λ image. StandsFor image db) (λ image. StandsFor image db) (StaysFor db) (opens_same before mid near past between reading old db stands one two) (subst (λ d. Runs near now reading images (StaysFor d)) is three)
+    (λ image left. left) (λ image after was left. left)
+
 -- ---- the used bytes with which an opening goes on
 
 pub used_of_one : (second last : ℕ) → second ≡ 0 → last ≡ cond (eqb second 0) last 1
@@ -94,16 +106,55 @@ finds_back old mid slot db records last used settled makes is =
 -- ---- a foreign disk
 
 -- of one that is foreign the settling leaves what may have been left before
-pub foreign_settles : (before now : ℕ) (past images : ℕ → Image → Type 0) (content : Image) (area offset : ℕ) → IsForeign content area offset → Runs before now past images (MaySettle content) → Runs before now past images Same
-foreign_settles before now past images content area offset foreign run =
-    Runs-wider before now past images (MaySettle content) Same run
-    (λ old image was may. ⊎_elim
-    (λ same. same)
-    (λ finish. absurd (standing_is_not_foreign content no_db area offset (inl (record { unfinished = finish.0; db_is = refl })) foreign))
-    may)
+pub foreign_settles : (before now last : ℕ) (past images : ℕ → Image → Type 0) (content : Image) (area offset : ℕ) → IsForeign content area offset → past before content → RunsFromSync before now last past images (MaySettle content) → Runs before now past images Same
+foreign_settles before now last past images content area offset foreign there run = record {
+  later = run.later;
+  keeps = run.keeps;
+  kept = run.kept;
+  during = λ m image lt le is. ⊎_elim
+      (λ was. (image, was, refl))
+      (λ may. ⊎_elim
+      (λ same. (content, there, same))
+      (λ finish. absurd (standing_is_not_foreign content no_db area offset (inl (record { unfinished = finish.0; db_is = refl })) foreign))
+      may)
+      (sync_leaves before now last past images (MaySettle content) run m image lt le is);
+}
 
 -- and so does a reading behind it
-pub foreign_reads : (before mid now : ℕ) (past between images : ℕ → Image → Type 0) (content : Image) (area offset : ℕ) → IsForeign content area offset → Runs before mid past between (MaySettle content) → Runs mid now between images Same
+pub foreign_reads : (before mid now last : ℕ) (past between images : ℕ → Image → Type 0) (content : Image) (area offset : ℕ) → IsForeign content area offset → past before content → RunsFromSync before mid last past between (MaySettle content) → Runs mid now between images Same
     → Runs before now past images Same
-foreign_reads before mid now past between images content area offset foreign one two =
-    Runs-more before mid now past between images Same (foreign_settles before mid past between content area offset foreign one) two (λ old near image first second. second ∙ first)
+foreign_reads before mid now last past between images content area offset foreign there one two =
+    Runs-more before mid now past between images Same (foreign_settles before mid last past between content area offset foreign there one) two (λ old near image first second. second ∙ first)
+
+-- ---- what stays as it was
+
+-- where the slot names one log
+pub keeps_of_one : (old mid new : Image) (slot : Super) → IsSettled old mid slot → new ≡ mid → KeepsAreas old new
+keeps_of_one old mid new slot settled stays = ⊎_elim
+    (λ same.
+    let all : new ≡ old = stays ∙ same in
+    let named : Names (old 0) slot = subst (λ (i : Image). Names (i 0) slot) same settled.names in
+    record {
+      unfinished = λ is. absurd (unfinished_names_none (old 0) slot is named);
+      one_log = λ other names none. all;
+      two_logs = λ other names some area is ne. ap (λ (i : Image). i area) all;
+    })
+    (λ was. record {
+      unfinished = λ is. subst (IsFinished old) (sym stays) was.1;
+      one_log = λ other names none. absurd (unfinished_names_none (old 0) other was.0 names);
+      two_logs = λ other names some. absurd (unfinished_names_none (old 0) other was.0 names);
+    })
+    settled.change
+
+-- where it names two
+pub keeps_of_two : (old mid new : Image) (slot : Super) → IsSettled old mid slot → slot.second ≢ 0 → KeepsNamedBy slot mid new → KeepsAreas old new
+keeps_of_two old mid new slot settled some keeps = ⊎_elim
+    (λ same.
+    let named : Names (old 0) slot = subst (λ (i : Image). Names (i 0) slot) same settled.names in
+    record {
+      unfinished = λ is. absurd (unfinished_names_none (old 0) slot is named);
+      one_log = λ other names none. absurd (some (subst (λ (s : Super). s.second ≡ 0) (one_slot (old 0) other slot names named) none));
+      two_logs = λ other names more. subst (λ s. KeepsNamedBy s old new) (one_slot (old 0) slot other named names) (subst (λ (i : Image). KeepsNamedBy slot i new) same keeps);
+    })
+    (λ was. absurd (some (ap (λ (s : Super). s.second) (one_slot (mid 0) slot fresh_slot settled.names was.1.fresh.names))))
+    settled.change

@@ -12,7 +12,8 @@ use Rattle.ct_pages.proofs.Decoding.{one_slot, unfinished_names_none}
 use Rattle.ct_found.specs.Found.{Stands, StandsFor}
 use Rattle.ct_recover.specs.Laws.{SettledStands, SettledKeeps, SettlingStands}
 
-empty_log : (bytes : List ℕ) → bytes ≡ 0 ∷ [] → IsLog [] 1 bytes
+-- a closed gate alone is the log without records
+pub empty_log : (bytes : List ℕ) → bytes ≡ 0 ∷ [] → IsLog [] 1 bytes
 empty_log bytes is = record { gate = 0; ignored = []; split = is; closed = λ e. cc; fit = tt; used_is = omega arith }
 
 -- a finished disk stands for the empty database
@@ -66,7 +67,7 @@ settled_stands old new slot db settled stands = ⊎_elim stayed finished settled
         (0, 1, subst (λ d. Stands slot new d 0 1) (sym (stands_empty old db was.0 stands)) by_slot)
 
 pub settling_stands : SettlingStands
-settling_stands content old new db stands may = ⊎_elim
-    (λ same. inl same)
-    (λ finish. inr (subst (StandsFor new) (sym (stands_empty content db finish.0 stands)) (finishing_stands content new finish.1)))
+settling_stands content image db stands may = ⊎_elim
+    (λ same. subst (λ (i : Image). StandsFor i db) (sym same) stands)
+    (λ finish. subst (StandsFor image) (sym (stands_empty content db finish.0 stands)) (finishing_stands content image finish.1))
     may

@@ -33,8 +33,12 @@ pub record IsCondensed (next : Super) (bytes : List ℕ) (image : Image) : Type 
   pub checkpoint : image next.checkpoint ≡ bytes
   pub log : image next.first ≡ 0 ∷ []
 
+-- the areas that a slot names stay, but for area 0
+abbrev pub KeepsNamedBy : Super → Image → Image → Type 0
+KeepsNamedBy slot old new = (area : ℕ) → IsNamed slot area → (area ≡ 0 → ⊥) → new area ≡ old area
+
 -- what a crash may leave of that: the areas that the old slot names stay, but for area 0, in which the one slot is current or
 -- the other with what it names
 pub record MayCondense (slot next : Super) (bytes : List ℕ) (old new : Image) : Type 0 where
-  pub kept : (area : ℕ) → IsNamed slot area → (area ≡ 0 → ⊥) → new area ≡ old area
+  pub kept : KeepsNamedBy slot old new
   pub stage : Names (new 0) slot ⊎ IsCondensed next bytes new

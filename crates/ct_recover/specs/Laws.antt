@@ -1,5 +1,5 @@
 -- The laws of what a disk stands for, beside those of its readers.
-use Rattle.std.specs.Prelude.{◌≡◌, ◌⊎◌, ℕ}
+use Rattle.std.specs.Prelude.{ℕ}
 use Rattle.ct_faults.specs.Disk.{Image}
 use Rattle.ct_model.specs.declared.db.Db.{Db}
 use Rattle.ct_model.specs.Valid.{IsValid}
@@ -20,6 +20,6 @@ abbrev pub SettledKeeps : Type 0
 SettledKeeps =
     (old new : Image) (slot other : Super) (db : Db) (records used : ℕ) → IsSettled old new slot → Stands other old db records used → Stands slot new db records used
 
--- what a crash may leave of that is what it may have left before, or stands for what reads gave
+-- what a crash may leave of that from its sync on stands for what reads gave
 abbrev pub SettlingStands : Type 0
-SettlingStands = (content old new : Image) (db : Db) → StandsFor content db → MaySettle content old new → (new ≡ old) ⊎ StandsFor new db
+SettlingStands = (content image : Image) (db : Db) → StandsFor content db → MaySettle content image → StandsFor image db

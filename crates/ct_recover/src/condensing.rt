@@ -4,8 +4,8 @@ ghost use Rattle.ct_faults.specs.Disk.{Runs, LeavesOnly};
 ghost use Rattle.ct_log.specs.Reading.{IsNoForeign};
 ghost use Rattle.ct_pages.specs.Slots.{IsCanonical, Names};
 ghost use Rattle.ct_found.specs.Found.{Stands};
-ghost use Rattle.ct_recover.specs.Opening.{StandsBy, MayOpen};
-ghost use Rattle.ct_recover.specs.Condensing.{next_slot, IsApart, IsCondensed, MayCondense};
+ghost use Rattle.ct_recover.specs.Opening.{StandsBy, StaysFor};
+ghost use Rattle.ct_recover.specs.Condensing.{next_slot, IsApart, IsCondensed, KeepsNamedBy, MayCondense};
 
 use ct_checkpoint::put_db;
 use ct_faults::{Disk, DiskFault};
@@ -59,7 +59,7 @@ fn lay_down<D: Disk>(disk: &mut D, slot: Super, next: Super, bytes: &[u8]) -> Re
 /// these. It makes its own room.
 ///
 /// A crash leaves what reads give, as the call begins and after Ok; at each moment it leaves a disk that stands for the database.
-/// `DiskFault` comes only where the disk's count of faults rose.
+/// No area that the old slot names changes but area 0, also where it fails. `DiskFault` comes only where the disk's count of faults rose.
 pub fn condense<D: Disk>(
     alloc: Global,
     disk: &mut D,
@@ -75,7 +75,8 @@ pub fn condense<D: Disk>(
     ensures honest { D.honest disk.old ↔ D.honest disk.new }
     ensures stands { D.honest disk.old → IfOk result (λ next. Stands next (D.content disk.new) db.now 0 1) }
     ensures durable { D.honest disk.old → OnOk result (LeavesOnly (D.content disk.new) (D.images disk.new (D.clock disk.new))) }
-    ensures images { D.honest disk.old → Runs (D.clock disk.old) (D.clock disk.new) (D.images disk.old) (D.images disk.new) (MayOpen db.now) }
+    ensures images { D.honest disk.old → Runs (D.clock disk.old) (D.clock disk.new) (D.images disk.old) (D.images disk.new) (StaysFor db.now) }
+    ensures keeps { D.honest disk.old → KeepsNamedBy slot (D.content disk.old) (D.content disk.new) }
     ensures not_foreign { IfErr result IsNoForeign }
     ensures later { D.faults disk.old ≤ D.faults disk.new }
     ensures fault { IsErrOf result OpenFault.DiskFault → Rose (D.faults disk.old) (D.faults disk.new) }

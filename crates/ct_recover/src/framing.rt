@@ -31,6 +31,7 @@ pub fn append_frame<D: Disk>(disk: &mut D, log: &mut Log, body: &[u8]) -> Result
     ensures ok { OnOk result (log.new.used ≡ log.old.used + length body.now) }
     ensures err { OnErr result (log.new.used ≡ log.old.used) }
     ensures honest { D.honest disk.old ↔ D.honest disk.new }
+    ensures rises { D.honest disk.old → OnOk result (D.clock disk.old < D.clock disk.new) }
     ensures later { D.faults disk.old ≤ D.faults disk.new }
     ensures fault { IsErrOf result VolumeError.DiskFault → Rose (D.faults disk.old) (D.faults disk.new) }
     ensures kept_content { D.honest disk.old → IfErr result (λ e. IsRefusal e → D.content disk.new ≡ D.content disk.old) }

@@ -15,7 +15,7 @@ pub fn settled_keeps()
     ensures { SettledKeeps }
 {}
 
-/// What a crash may leave of the settling is what it may have left before, or stands for what reads gave.
+/// What a crash may leave of the settling from its sync on stands for what reads gave.
 pub fn settling_stands()
     ensures { SettlingStands }
 {}

@@ -1,10 +1,10 @@
 ghost use Rattle.std.specs.Prelude.{◌≡◌, ◌≤◌, ◌↔◌, IfOk, IfErr, IsErrOf, OnOk, OnErr};
 ghost use Rattle.ct_faults.specs.Causes.{Rose};
-ghost use Rattle.ct_faults.specs.Disk.{Same, Runs, LeavesOnly};
+ghost use Rattle.ct_faults.specs.Disk.{Runs, LeavesOnly};
 ghost use Rattle.ct_pages.specs.Fresh.{fresh_slot, IsFinished, MayFinish};
 ghost use Rattle.ct_pages.specs.Flips.{SameHead};
 ghost use Rattle.ct_pages.specs.Slots.{IsCanonical, IsUnfinished};
-ghost use Rattle.ct_recover.specs.Settling.{MaySettle, Settles};
+ghost use Rattle.ct_recover.specs.Settling.{MaySettle, RunsFromSync, Settles, synced_by};
 
 use ct_faults::Disk;
 use ct_log::OpenFault;
@@ -34,6 +34,9 @@ fn finish<D: Disk>(disk: &mut D) -> Result<Super, OpenFault>
 /// Makes a disk that is to be opened one in which a slot is current and a crash leaves what reads give, and answers the slot:
 /// it syncs the disk, and finishes it where it is unfinished. It makes its own room.
 ///
+/// Until the sync is done a crash leaves what it may have left before; from then on what reads gave, or, of an unfinished disk,
+/// what the finishing may leave. After Ok it was done.
+///
 /// `Foreign` comes exactly where area 0 has another mark (offset 0), or an open slot that may not stand there (8 or 24); no
 /// byte changes then. `DiskFault` comes only where the disk's count of faults rose.
 pub fn settle<D: Disk>(disk: &mut D) -> Result<Super, OpenFault>
@@ -41,7 +44,7 @@ pub fn settle<D: Disk>(disk: &mut D) -> Result<Super, OpenFault>
     ensures honest { D.honest disk.old ↔ D.honest disk.new }
     ensures settles { D.honest disk.old → Settles (D.content disk.old) (D.content disk.new) result }
     ensures durable { D.honest disk.old → OnOk result (LeavesOnly (D.content disk.new) (D.images disk.new (D.clock disk.new))) }
-    ensures images { D.honest disk.old → Runs (D.clock disk.old) (D.clock disk.new) (D.images disk.old) (D.images disk.new) (MaySettle (D.content disk.old)) }
+    ensures images { D.honest disk.old → RunsFromSync (D.clock disk.old) (D.clock disk.new) (synced_by result (D.clock disk.new)) (D.images disk.old) (D.images disk.new) (MaySettle (D.content disk.old)) }
     ensures later { D.faults disk.old ≤ D.faults disk.new }
     ensures fault { IsErrOf result OpenFault.DiskFault → Rose (D.faults disk.old) (D.faults disk.new) }
 {

@@ -99,6 +99,7 @@ impl<D: Disk> Volume<D> {
 
         // the disk
         ensures honest { D.honest self.old.disk ↔ D.honest self.new.disk }
+        ensures rises { D.honest self.old.disk → OnOk result (D.clock self.old.disk < D.clock self.new.disk) }
         ensures later { D.faults self.old.disk ≤ D.faults self.new.disk }
         ensures fault { IsErrOf result VolumeError.DiskFault → Rose (D.faults self.old.disk) (D.faults self.new.disk) }
 

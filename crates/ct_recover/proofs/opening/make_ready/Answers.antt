@@ -1,13 +1,12 @@
-use Rattle.std.proofs.Common.{◌≡◌, sym, subst}
+use Rattle.std.proofs.Common.{◌+◌, sym, subst}
 use Rattle.std.proofs.lemmas.Result.{err_from_is_err_and}
-use Rattle.ct_faults.specs.Disk.{Image, Runs}
-use Rattle.ct_model.specs.declared.db.Db.{Db}
-use Rattle.ct_found.specs.Found.{Stands}
-use Rattle.ct_found.proofs.Once.{stands_once}
+use Rattle.ct_faults.specs.Disk.{Image}
+use Rattle.ct_found.specs.Found.{Stands, StandsFor}
 use Rattle.ct_found.proofs.Faults.{standing_is_not_foreign}
-use Rattle.ct_recover.specs.Opening.{MayOpen}
+use Rattle.ct_recover.specs.Condensing.{KeepsNamedBy}
+use Rattle.ct_recover.proofs.Syncs.{sync_answered, sync_failed}
 use Rattle.ct_recover.proofs.Opens.{only_after}
-use Rattle.ct_recover.proofs.Readies.{settle_opens, opens_same, opens_more, opens_failed, steady_of, read_back, used_of_one, used_of_two, finds_back, foreign_settles, foreign_reads}
+use Rattle.ct_recover.proofs.Readies.{settle_opens, opens_same, opens_on, opens_failed, steady_of, read_back, used_of_one, used_of_two, finds_back, foreign_settles, foreign_reads, keeps_of_one, keeps_of_two}
 use Rattle.ct_recover.proofs.opening.make_ready.Goals as goal
 
 pub returns-in_err-slot-clause-images : goal.returns-in_err-slot-clause-images
@@ -15,7 +14,8 @@ returns-in_err-slot-clause-images g c = λ h db stands.
     let D = g.D.Disk in
     let old = c.args.disk.now in
     let mid = c.settle.new.disk in
-    settle_opens (D.clock old) (D.clock mid) (D.images old) (D.images mid) (D.content old) db stands (c.settle.ensures.images h)
+    sync_failed _ c.from_residual.result (D.clock old) (D.clock mid) (D.images old) (D.images mid) (λ image. StandsFor image db) c.from_residual.ensures.1
+    (settle_opens (D.clock old) (D.clock mid) (D.clock mid + 1) (D.images old) (D.images mid) (D.content old) db stands (c.in_err-slot.ensures.images h))
 
 pub returns-in_err-found-clause-opens : goal.returns-in_err-found-clause-opens
 returns-in_err-found-clause-opens g c = λ h.
@@ -34,8 +34,8 @@ returns-in_err-found-clause-images g c = λ h db stands.
     let old = c.args.disk.now in
     let mid = c.settle.new.disk in
     let new = c.read_named.new.disk in
-    opens_same (D.clock old) (D.clock mid) (D.clock new) (D.images old) (D.images mid) (D.images new) db
-    (settle_opens (D.clock old) (D.clock mid) (D.images old) (D.images mid) (D.content old) db stands (c.settle.ensures.images h)) (c.read_named.ensures.images (c.in_ok-slot.ensures.honest.0 h))
+    sync_answered c.from_residual-in_err-found.result (D.clock old) (D.clock new) (D.images old) (D.images new) (λ image. StandsFor image db)
+    (opens_same (D.clock old) (D.clock mid) (D.clock new) (D.images old) (D.images mid) (D.images new) (D.content old) db stands (c.in_ok-slot.ensures.images h) (c.read_named.ensures.images (c.in_ok-slot.ensures.honest.0 h)))
 
 pub returns-then-slot-eq0-clause-opens : goal.returns-then-slot-eq0-clause-opens
 returns-then-slot-eq0-clause-opens g c = λ h.
@@ -61,8 +61,7 @@ returns-then-slot-eq0-clause-images g c = λ h db stands.
     let old = c.args.disk.now in
     let mid = c.settle.new.disk in
     let new = c.read_named.new.disk in
-    opens_same (D.clock old) (D.clock mid) (D.clock new) (D.images old) (D.images mid) (D.images new) db
-    (settle_opens (D.clock old) (D.clock mid) (D.images old) (D.images mid) (D.content old) db stands (c.settle.ensures.images h)) (c.read_named.ensures.images (c.in_ok-slot.ensures.honest.0 h))
+    opens_same (D.clock old) (D.clock mid) (D.clock new) (D.images old) (D.images mid) (D.images new) (D.content old) db stands (c.in_ok-slot.ensures.images h) (c.read_named.ensures.images (c.in_ok-slot.ensures.honest.0 h))
 
 pub returns-in_err-next-clause-images : goal.returns-in_err-next-clause-images
 returns-in_err-next-clause-images g c = λ h db stands.
@@ -72,14 +71,10 @@ returns-in_err-next-clause-images g c = λ h db stands.
     let new = c.read_named.new.disk in
     let last = c.condense.new.disk in
     let near = c.in_ok-slot.ensures.honest.0 h in
-    let far = c.in_ok-found.ensures.honest.0 near in
     let found = c.in_ok-found.found in
-    let back = read_back (D.content old) (D.content mid) c.in_ok-slot.slot found.db found.entries found.used (c.in_ok-slot.ensures.settles h) (c.in_ok-found.ensures.reads near) in
-    let is : found.db ≡ db = stands_once (D.content old) found.db db back stands in
-    opens_more (D.clock old) (D.clock new) (D.clock last) (D.images old) (D.images new) (D.images last) db
-    (opens_same (D.clock old) (D.clock mid) (D.clock new) (D.images old) (D.images mid) (D.images new) db
-    (settle_opens (D.clock old) (D.clock mid) (D.images old) (D.images mid) (D.content old) db stands (c.settle.ensures.images h)) (c.read_named.ensures.images near))
-    (subst (λ (d : Db). Runs (D.clock new) (D.clock last) (D.images new) (D.images last) (MayOpen d)) is (c.condense.ensures.images far))
+    sync_answered c.from_residual-in_err-next.result (D.clock old) (D.clock last) (D.images old) (D.images last) (λ image. StandsFor image db)
+    (opens_on (D.clock old) (D.clock mid) (D.clock new) (D.clock last) (D.images old) (D.images mid) (D.images new) (D.images last) (D.content old) (D.content mid) c.in_ok-slot.slot db found.db found.entries found.used
+    (c.in_ok-slot.ensures.settles h) (c.in_ok-found.ensures.reads near) stands (c.in_ok-slot.ensures.images h) (c.read_named.ensures.images near) (c.condense.ensures.images (c.in_ok-found.ensures.honest.0 near)))
 
 pub returns-clause-opens : goal.returns-clause-opens
 returns-clause-opens g c = λ h.
@@ -102,14 +97,9 @@ returns-clause-images g c = λ h db stands.
     let new = c.read_named.new.disk in
     let last = c.condense.new.disk in
     let near = c.in_ok-slot.ensures.honest.0 h in
-    let far = c.in_ok-found.ensures.honest.0 near in
     let found = c.in_ok-found.found in
-    let back = read_back (D.content old) (D.content mid) c.in_ok-slot.slot found.db found.entries found.used (c.in_ok-slot.ensures.settles h) (c.in_ok-found.ensures.reads near) in
-    let is : found.db ≡ db = stands_once (D.content old) found.db db back stands in
-    opens_more (D.clock old) (D.clock new) (D.clock last) (D.images old) (D.images new) (D.images last) db
-    (opens_same (D.clock old) (D.clock mid) (D.clock new) (D.images old) (D.images mid) (D.images new) db
-    (settle_opens (D.clock old) (D.clock mid) (D.images old) (D.images mid) (D.content old) db stands (c.settle.ensures.images h)) (c.read_named.ensures.images near))
-    (subst (λ (d : Db). Runs (D.clock new) (D.clock last) (D.images new) (D.images last) (MayOpen d)) is (c.condense.ensures.images far))
+    opens_on (D.clock old) (D.clock mid) (D.clock new) (D.clock last) (D.images old) (D.images mid) (D.images new) (D.images last) (D.content old) (D.content mid) c.in_ok-slot.slot db found.db found.entries found.used
+    (c.in_ok-slot.ensures.settles h) (c.in_ok-found.ensures.reads near) stands (c.in_ok-slot.ensures.images h) (c.read_named.ensures.images near) (c.condense.ensures.images (c.in_ok-found.ensures.honest.0 near))
 
 pub returns-then-slot-eq0-clause-finds : goal.returns-then-slot-eq0-clause-finds
 returns-then-slot-eq0-clause-finds g c = λ h.
@@ -134,7 +124,7 @@ returns-in_err-slot-clause-foreign_images g c = λ h area offset foreign.
     let D = g.D.Disk in
     let old = c.args.disk.now in
     let mid = c.settle.new.disk in
-    foreign_settles (D.clock old) (D.clock mid) (D.images old) (D.images mid) (D.content old) area offset foreign (c.settle.ensures.images h)
+    foreign_settles (D.clock old) (D.clock mid) (D.clock mid + 1) (D.images old) (D.images mid) (D.content old) area offset foreign (g.met.D.Disk.content_is_image old h) (c.in_err-slot.ensures.images h)
 
 pub returns-in_err-found-clause-foreign_images : goal.returns-in_err-found-clause-foreign_images
 returns-in_err-found-clause-foreign_images g c = λ h area offset foreign.
@@ -142,7 +132,8 @@ returns-in_err-found-clause-foreign_images g c = λ h area offset foreign.
     let old = c.args.disk.now in
     let mid = c.settle.new.disk in
     let new = c.read_named.new.disk in
-    foreign_reads (D.clock old) (D.clock mid) (D.clock new) (D.images old) (D.images mid) (D.images new) (D.content old) area offset foreign (c.settle.ensures.images h) (c.read_named.ensures.images (c.in_ok-slot.ensures.honest.0 h))
+    foreign_reads (D.clock old) (D.clock mid) (D.clock new) (D.clock mid) (D.images old) (D.images mid) (D.images new) (D.content old) area offset foreign (g.met.D.Disk.content_is_image old h) (c.in_ok-slot.ensures.images h)
+    (c.read_named.ensures.images (c.in_ok-slot.ensures.honest.0 h))
 
 pub returns-then-slot-eq0-clause-foreign_images : goal.returns-then-slot-eq0-clause-foreign_images
 returns-then-slot-eq0-clause-foreign_images g c = λ h area offset foreign.
@@ -150,7 +141,8 @@ returns-then-slot-eq0-clause-foreign_images g c = λ h area offset foreign.
     let old = c.args.disk.now in
     let mid = c.settle.new.disk in
     let new = c.read_named.new.disk in
-    foreign_reads (D.clock old) (D.clock mid) (D.clock new) (D.images old) (D.images mid) (D.images new) (D.content old) area offset foreign (c.settle.ensures.images h) (c.read_named.ensures.images (c.in_ok-slot.ensures.honest.0 h))
+    foreign_reads (D.clock old) (D.clock mid) (D.clock new) (D.clock mid) (D.images old) (D.images mid) (D.images new) (D.content old) area offset foreign (g.met.D.Disk.content_is_image old h) (c.in_ok-slot.ensures.images h)
+    (c.read_named.ensures.images (c.in_ok-slot.ensures.honest.0 h))
 
 pub returns-in_err-next-clause-foreign_images : goal.returns-in_err-next-clause-foreign_images
 returns-in_err-next-clause-foreign_images g c = λ h area offset foreign.
@@ -171,3 +163,18 @@ returns-clause-foreign_images g c = λ h area offset foreign.
     let found = c.in_ok-found.found in
     let back = read_back (D.content old) (D.content mid) c.in_ok-slot.slot found.db found.entries found.used (c.in_ok-slot.ensures.settles h) (c.in_ok-found.ensures.reads near) in
     absurd (standing_is_not_foreign (D.content old) found.db area offset back foreign)
+
+pub returns-then-slot-eq0-clause-leaves : goal.returns-then-slot-eq0-clause-leaves
+returns-then-slot-eq0-clause-leaves g c = λ h.
+    let D = g.D.Disk in
+    keeps_of_one (D.content c.args.disk.now) (D.content c.settle.new.disk) (D.content c.read_named.new.disk) c.in_ok-slot.slot (c.in_ok-slot.ensures.settles h) (c.read_named.ensures.content (c.in_ok-slot.ensures.honest.0 h))
+
+pub returns-clause-leaves : goal.returns-clause-leaves
+returns-clause-leaves g c = λ h.
+    let D = g.D.Disk in
+    let slot = c.in_ok-slot.slot in
+    let last = D.content c.condense.new.disk in
+    let near = c.in_ok-slot.ensures.honest.0 h in
+    let kept = c.condense.ensures.keeps (c.in_ok-found.ensures.honest.0 near) in
+    keeps_of_two (D.content c.args.disk.now) (D.content c.settle.new.disk) last slot (c.in_ok-slot.ensures.settles h) c.if-slot-eq0.false
+    (subst (λ (i : Image). KeepsNamedBy slot i last) (c.read_named.ensures.content near) kept)
