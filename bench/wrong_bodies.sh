@@ -1,6 +1,6 @@
 #!/bin/sh
 # wrong_bodies.sh [NAME..]: whether the rows of the programs refuse wrong bodies. For each edit of bench/wrong_bodies (or those named) the programs of rows that stand
-# on its crate, `ct_cases`, `ct_trees` and `ct_disk_cases`, run unproved on a copy of what is committed with that one body, and a line tells the first row that they answer otherwise
+# on its crate, `ct_cases`, `ct_trees`, `ct_bindings` and `ct_disk_cases`, run unproved on a copy of what is committed with that one body, and a line tells the first row that they answer otherwise
 # than is stored, or that there is none. A row that the program without the edit does not answer as is stored counts for nothing. Each program takes about a minute for each edit.
 # An edit has the lines `crate:`, `file:` (in the crate), `old:` and `new:`; the text of `old:` stands once in the file.
 # The status is 1 where no row refuses some body.
@@ -13,7 +13,7 @@ python3 - "$top" "$work/ct" "$@" <<'PYTHON'
 import glob, os, subprocess, sys
 
 top, copy, names = sys.argv[1], sys.argv[2], sys.argv[3:]
-PROGRAMS = ["ct_disk_cases", "ct_trees", "ct_cases"]
+PROGRAMS = ["ct_disk_cases", "ct_trees", "ct_bindings", "ct_cases"]
 
 
 def read(path):

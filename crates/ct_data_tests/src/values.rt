@@ -1,17 +1,12 @@
-ghost use Rattle.std.specs.Prelude.{◌≡◌, ◌≤◌, ◌∷◌, [], IfOk, length};
-ghost use Rattle.ct_source.specs.Rows.{HasKeyColumns};
-
 use crate::hold::let_go;
 use ct_expr::{Env, Versions};
 use ct_mask::Mask;
-use ct_model::key_of_row;
 use ct_query::select;
-use ct_source::{Source, Stored};
+use ct_source::Source;
 use ct_types::{
-    Bin, BoundExpr, BoundWrite, ColType, Column, Grid, Join, Key, List, Memory, Op, Plan, Refusal,
-    Row, RowChange, Schema, Text, Tracked, Value, Variables, VersionRow, Write, push,
+    BoundExpr, Grid, Join, Key, List, Memory, Plan, Refusal, Row, Value, Variables, VersionRow,
+    push,
 };
-use ct_write::writes;
 use std::alloc::Global;
 use std::test::Fail;
 
@@ -164,126 +159,5 @@ fn answered(alloc: Global) -> Result<String, Memory> {
 fn applies_row_by_row(rt: HostRuntime) -> Result<(), Fail> {
     let text = answered(rt.alloc())?;
     assert_eq!(rt; text.as_str(), "1 10 1 7;- 20 - 8;2 30 3 9;1 40 1 6;");
-    Ok(())
-}
-
-// ---- the context of a change
-
-fn columns(alloc: Global) -> Result<List<Column>, Memory> {
-    let name = Text::of(alloc, "id")?;
-    let mut columns = List::new(alloc);
-    push(
-        &mut columns,
-        Column {
-            name,
-            kind: ColType::Int,
-            nullable: false,
-        },
-    )?;
-    Ok(columns)
-}
-
-/// The first column as the key, which has to be there.
-fn first_column(alloc: Global, columns: &List<Column>) -> Result<List<u16>, Memory>
-    ensures { IfOk result (λ key. (key ≡ 1 ∷ []) × (1 ≤ length columns.now)) }
-{
-    if columns.as_slice().is_empty() {
-        return Err(Memory);
-    }
-    let mut key = List::new(alloc);
-    key.push(1)?;
-    Ok(key)
-}
-
-/// `CREATE TABLE t (id INT PRIMARY KEY)`
-fn schema(alloc: Global) -> Result<Schema, Memory>
-    ensures { IfOk result HasKeyColumns }
-{
-    let name = Text::of(alloc, "t")?;
-    let columns = columns(alloc)?;
-    let key = first_column(alloc, &columns)?;
-    Ok(Schema {
-        id: 1,
-        name,
-        columns,
-        key,
-    })
-}
-
-fn one_id(alloc: Global) -> Result<Row, Memory> {
-    let mut values = List::new(alloc);
-    push(&mut values, Value::Int(1))?;
-    Ok(Row(values))
-}
-
-/// Puts a row at its key, where it has a value for each column.
-fn put(alloc: Global, table: &mut Stored, row: Row) -> Result<(), Memory> {
-    if row.0.as_slice().len() != table.schema().columns.as_slice().len() {
-        return Err(Memory);
-    }
-    let key = key_of_row(alloc, table.schema(), &row)?;
-    table.put(key, row)
-}
-
-/// The table with one row.
-fn table(alloc: Global) -> Result<Stored, Memory> {
-    let row = one_id(alloc)?;
-    let mut table = Stored::new(alloc, schema(alloc)?)?;
-    table.set_tracked(Some(Tracked {
-        min: 0,
-        masks: true,
-    }));
-    put(alloc, &mut table, row)?;
-    Ok(table)
-}
-
-/// What `DELETE t` writes on the table, with a context.
-fn deleted(alloc: Global, table: &Stored, context: &[u8]) -> Result<List<Write>, Refusal> {
-    let context = Bin::of(alloc, context)?;
-    let bound = BoundWrite {
-        table: 1,
-        context: Some(BoundExpr::Bytes(context)),
-        change: RowChange::Delete { filter: None },
-    };
-    let variables = Variables(List::new(alloc));
-    let made = writes(alloc, &bound, table, &empty_env(&variables), &Unchanged);
-    let_go(bound);
-    made
-}
-
-/// Whether this is one tracked delete with a context of so many bytes.
-fn is_delete(made: &Result<List<Write>, Refusal>, length: usize) -> bool {
-    let Ok(made) = made else {
-        return false;
-    };
-    let [write] = made.as_slice() else {
-        return false;
-    };
-    match &write.context {
-        Some(context) => {
-            write.op == Op::Delete && write.tracked && context.as_bytes().len() == length
-        }
-        None => false,
-    }
-}
-
-fn is_too_long(made: &Result<List<Write>, Refusal>) -> bool {
-    match made {
-        Err(Refusal::TooLong { column }) => column.as_str() == "CHANGE_TRACKING_CONTEXT",
-        _ => false,
-    }
-}
-
-const BYTES: [u8; 129] = [7; 129];
-
-#[test]
-fn a_context_has_at_most_128_bytes(rt: HostRuntime) -> Result<(), Fail> {
-    let alloc = rt.alloc();
-    let table = table(alloc)?;
-    let fitting = deleted(alloc, &table, &BYTES[..128]);
-    let longer = deleted(alloc, &table, &BYTES);
-    let_go(table);
-    assert!(rt; is_delete(&fitting, 128));
-    assert!(rt; is_too_long(&longer));
     Ok(())
 }
